@@ -1,4 +1,5 @@
-//! The backend of real processes.
+//! The backend of real processes: it carries out orders, as to start a service's program or to signal it, and reports what becomes of the programs.
+//! The keeper is the thread that starts the threads of each child; `roster` is its list of children.
 ghost use Rattle.std.specs.Prelude.{◌≡◌, ◌++◌, ◌∷◌, [], OnOk, OnErr, IfOk};
 ghost use Rattle.child_runner.specs.Roll.{with_asked};
 
@@ -76,7 +77,9 @@ impl<R: Drop> ProcessBackend<R> {
     ) -> Result<ProcessBackend<R>, NoMemory>
         ensures { IfOk result (λ b. b ≡ record { asked = []; given = []; living = [] }) }
     {
+        // It rings when there is something to report.
         let bell = Arc::new(alloc, Bell::new())?;
+        // The children of all backends of the keeper.
         let roster = Arc::try_clone(&keeper.roster)?;
         Ok(ProcessBackend {
             rt,
@@ -85,9 +88,13 @@ impl<R: Drop> ProcessBackend<R> {
             roster,
             bell,
             notes: Arc::try_clone(notes)?,
+            // The children of this backend whose end was not reported yet.
             processes: Vec::new(alloc),
+            // The services for which a note said that no signal can be sent to them.
             deaf: Vec::new(alloc),
+            // Which child is asked first for a report.
             turn: 0,
+            // Which starts were ordered and may still be reported on.
             roll: Roll::new(alloc),
         })
     }
@@ -113,8 +120,9 @@ impl<R: Processes<Started = SystemProcess> + Files + Wait + Drop> ProcessBackend
         }
     }
 
-    // Enters the child in `roster` and in `roll`, and starts its program. It takes all memory before, so at `NoMemory` nothing was started. A
-    // program that can't be started is reported.
+    // Enters the child in `roster`, the list of the keeper, which starts the threads of children, and in `roll`, the list of starts that may be
+    // reported on; and starts its program. It takes all memory before, so at `NoMemory` nothing was started. A program that can't be started is
+    // reported.
     fn enter_and_run(
         &mut self,
         order: &Order,
@@ -128,6 +136,7 @@ impl<R: Processes<Started = SystemProcess> + Files + Wait + Drop> ProcessBackend
         ensures same { OnErr result (self.new ≡ self.old) }
     {
         let bell = Arc::try_clone(&self.bell)?;
+        // The child's number on the roster, not that of its process.
         let number = self.roster.take_number(&self.rt);
         let process = Arc::new(
             self.alloc,
@@ -148,11 +157,13 @@ impl<R: Processes<Started = SystemProcess> + Files + Wait + Drop> ProcessBackend
     fn run(&self, process: &ServiceProcess, mut launch: Launch) {
         match self.spawn(&mut launch) {
             Some((child, pipe)) => {
+                // The keeper starts the threads that watch the child.
                 process.begin(&self.rt, child, pipe);
                 self.roster.begin(&self.rt, process.number);
             }
             None => {
                 self.note(&format!(in self.alloc; "svscan: {} can't be started\n", launch.path));
+                // The failure is reported, and the keeper's list forgets the child.
                 process.fail(&self.rt);
                 self.roster.leave(&self.rt, process.number);
             }
@@ -166,6 +177,7 @@ impl<R: Processes<Started = SystemProcess> + Files + Wait + Drop> ProcessBackend
         }
         let mut pipe = None;
         if launch.is_read {
+            // `theirs` is the child's standard output. By `writer`, a second writing end, a mark is written behind the last byte of the child.
             let (reader, theirs) = io::pipe(&self.rt).ok()?;
             let writer = theirs.try_clone().ok()?;
             launch.command.stdout(Stdio::from(theirs));
@@ -200,7 +212,7 @@ impl<R: Processes<Started = SystemProcess> + Files + Wait + Drop> ProcessBackend
         if let Some(place) = self.place_of(start) {
             self.send(place, signal)?;
         }
-        // The roll takes no memory for an order that starts nothing, so this is not refused once the signal was sent.
+        // The roll notes the order. It takes no memory for one that starts nothing, so this is not refused once the signal was sent.
         match self.roll.note(order) {
             Ok(()) => Ok(()),
             Err(_) => Err(AskFault::NoMemory),
@@ -217,6 +229,7 @@ impl<R: Processes<Started = SystemProcess> + Files + Wait + Drop> ProcessBackend
             return Ok(());
         };
         let sending = signal_child(&self.rt, self.alloc, process, signal)?;
+        // That is told once for each service.
         if sending == Sending::NoShell {
             self.tell_deaf(place);
         }
@@ -291,7 +304,8 @@ impl<R: Processes<Started = SystemProcess> + Files + Wait + Drop> ProcessBackend
         }
     }
 
-    // The next report of a child. The children take turns, so one that writes much holds up no other.
+    // The next report of a child. The children take turns, so one that writes much holds up no other: `turn` is the index of the one that is asked
+    // first.
     fn next_report(&mut self) -> Option<Report>
         ensures { self.new ≡ self.old }
     {
@@ -310,7 +324,9 @@ impl<R: Processes<Started = SystemProcess> + Files + Wait + Drop> ProcessBackend
         ensures { self.new ≡ self.old }
     {
         let report = self.processes.get(place)?.next_report(&self.rt)?;
+        // The next child is asked first then.
         self.turn = place.wrapping_add(1);
+        // No further report of the child comes.
         if is_last(&report) && place < self.processes.len() {
             let _ = self.processes.remove(place);
         }
@@ -336,7 +352,7 @@ impl<R: Processes<Started = SystemProcess> + Files + Wait + Drop> Backend for Pr
         }
     }
 
-    /// The next report of a process that this backend was asked to start. Any other report is dropped.
+    /// The next report of a process that this backend was asked to start. Any other report is dropped: the roll doesn't let it through.
     fn report(&mut self) -> Option<Report> {
         let report = self.next_report()?;
         self.roll.pass(report)

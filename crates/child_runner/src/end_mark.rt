@@ -1,4 +1,4 @@
-//! The mark that is written behind the last byte of a child.
+//! The mark that is written behind the last byte of a child, so that the thread that reads its output knows where that ends.
 ghost use Rattle.std.specs.Prelude.{◌≡◌, ◌≤◌, ◌↔◌, ℕ, IsTrue, length, drop, true, false};
 ghost use Rattle.memchr.specs.Find.{OccursAt};
 ghost use Rattle.child_runner.specs.EndMark.{end_mark, BeginsMark};
@@ -32,6 +32,7 @@ fn before_mark(bytes: &[u8]) -> usize
     ensures held { BeginsMark (drop result bytes.now) }
     ensures first { (k : ℕ) → k ≤ length bytes.now → BeginsMark (drop k bytes.now) → result ≤ k }
 {
+    // The first byte of the mark is only once in it, so a part of a mark can only begin where that byte is last.
     let Some(place) = memrchr(END_MARK[0], bytes) else {
         return bytes.len();
     };
@@ -53,6 +54,7 @@ pub(crate) fn telling_of(bytes: &[u8], is_due: bool) -> Telling
         → (k : ℕ) → k ≤ length bytes.now → BeginsMark (drop k bytes.now) → result.count ≤ k }
 {
     if is_due {
+        // The child's bytes are those before the mark.
         if let Some(count) = memmem::find(bytes, &END_MARK) {
             return Telling {
                 count,

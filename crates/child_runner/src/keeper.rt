@@ -1,4 +1,4 @@
-//! The keeper: the thread that starts the threads of children, and joins them.
+//! The keeper: the thread that starts, and joins, the threads that wait for children and read their output. `roster` is its list of children.
 ghost use Rattle.std.specs.Prelude.{◌≡◌};
 
 use crate::roster::ChildList;
@@ -26,12 +26,14 @@ pub enum KeeperFault {
 }
 
 impl From<AllocError> for KeeperFault {
+    // Where memory is refused, there is no keeper for that reason.
     fn from(_error: AllocError) -> KeeperFault {
         KeeperFault::NoMemory
     }
 }
 
 impl<T: Drop> From<AllocFailed<T>> for KeeperFault {
+    // Where memory is refused, there is no keeper for that reason.
     fn from(_failed: AllocFailed<T>) -> KeeperFault {
         KeeperFault::NoMemory
     }
@@ -50,6 +52,7 @@ impl<R: Threads + Wait + Clock + Copy + Send + Sync + Drop + 'static> Keeper<R> 
     /// Starts its thread.
     pub fn start(rt: R, alloc: Global) -> Result<Keeper<R>, KeeperFault> {
         let roster = Arc::new(alloc, ChildList::new(alloc))?;
+        // The handle for the thread.
         let theirs = Arc::try_clone(&roster)?;
         match Builder::new()
             .stack_size(STACK)
@@ -76,13 +79,16 @@ impl<R: Processes + Threads + Wait + Drop> Keeper<R> {
             roster,
             thread,
         } = self;
+        // No more children are taken.
         roster.end(&rt);
         for _ in 0..u64::MAX {
+            // A child that was given up has nobody who listens to it: it is killed next.
             let Some(process) = roster.give_one_up(&rt) else {
                 break;
             };
             stop(&rt, alloc, &process);
         }
+        // The thread ends once no child is left.
         thread.join(&rt);
     }
 }

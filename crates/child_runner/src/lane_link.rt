@@ -1,4 +1,4 @@
-//! The link between the backend of a run and the thread of its lane.
+//! The link between the backend of a run and the thread of its lane: a queue of orders to the thread, and one of reports back.
 ghost use Rattle.std.specs.Prelude.{◌≡◌, ◌++◌, ◌∷◌, [], OnOk, OnErr};
 ghost use Rattle.child_runner.specs.Roll.{with_asked};
 
@@ -27,7 +27,8 @@ pub struct LaneLink {
     bell: Arc<Bell, Global>,
 }
 
-// Adds an order for the lane's thread. From then on the order counts as asked.
+// Adds an order for the lane's thread. From then on the order counts as asked: the roll, a list of the starts that were ordered, lets the reports
+// of its start through.
 fn add_order(orders: &mut LinkQueue<Order>, roll: &mut Roll, order: &Order) -> Result<(), AskFault>
     ensures queued { OnOk result (orders.new.items.items
         ≡ orders.old.items.items ++ order.now ∷ []) }
@@ -51,6 +52,7 @@ impl LaneLink {
         LaneLink {
             orders: Mutex::new(LinkQueue::new(alloc, ORDER_LIMIT)),
             reports: Mutex::new(LinkQueue::new(alloc, REPORT_LIMIT)),
+            // Whether the lane's thread is to end.
             is_over: Mutex::new(false),
             bell,
         }
@@ -89,6 +91,7 @@ impl LaneLink {
     /// Takes the next order, and says whether the queue was full before; None where there is none.
     pub(crate) fn take_order<R: Wait>(&self, rt: &R) -> Option<(Order, bool)> {
         let mut orders = self.orders.lock(rt);
+        // If it was, the driver may wait for a place.
         let was_full = orders.is_full();
         let order = orders.take()?;
         Some((order, was_full))
@@ -97,6 +100,7 @@ impl LaneLink {
     /// Sends a report back. The error is the report, where 64 are on their way or memory is refused.
     pub(crate) fn give<R: Wait>(&self, rt: &R, report: Report) -> Result<(), Report> {
         let mut reports = self.reports.lock(rt);
+        // There is no place, or no memory for it.
         if reports.make_room().is_err() {
             return Err(report);
         }

@@ -1,4 +1,4 @@
-//! The thread of a lane.
+//! The thread of a lane: it asks its backend, which starts and signals processes, what a run orders by the link, and sends reports back by it.
 ghost use Rattle.std.specs.Prelude.{◌≡◌, ◌++◌, ◌∷◌, [], IfSome, IfNone};
 
 use crate::bell::Bell;
@@ -42,6 +42,7 @@ pub fn serve_lane<B: Backend, R: Wait + Clock>(
     driver: &Bell,
     backend: &mut B,
 ) {
+    // An order that the backend refused, and a report for which there was no place.
     let mut held = Held {
         order: None,
         report: None,
@@ -51,10 +52,12 @@ pub fn serve_lane<B: Backend, R: Wait + Clock>(
             break;
         }
         let carrying = carry_some(rt, link, driver, backend, &mut held.order);
+        // Whether a report is kept, since there was no place for it.
         let are_kept = give_reports(rt, link, driver, backend, &mut held.report);
         match carrying {
             Carrying::More => {}
             Carrying::Idle if !are_kept => link.wait_for_work(rt, None),
+            // An order was refused or a report is kept: it is tried again after a while.
             _ => link.wait_for_work(rt, Some(Duration::from_millis(RETRY))),
         }
     }
@@ -93,6 +96,7 @@ fn next_order<R: Wait>(
     }
     let (order, was_full) = link.take_order(rt)?;
     if was_full {
+        // There is a place for orders again, for which the driver may wait.
         driver.ring(rt);
     }
     Some(order)
@@ -126,6 +130,7 @@ fn give_reports<B: Backend, R: Wait>(
             *kept = Some(report);
             return true;
         }
+        // There is a report for the driver.
         driver.ring(rt);
     }
     // So many reports never come.

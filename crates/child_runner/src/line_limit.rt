@@ -24,6 +24,7 @@ impl LineLimit {
         ensures silent { result ≡ false → (self.old.left < count) × (self.new.left ≡ 0) }
     {
         if count > self.left {
+            // A part is left out, so nothing after it may be told.
             self.left = 0;
             return false;
         }

@@ -1,4 +1,4 @@
-//! The backend that a run has for a lane whose own backend is in a thread.
+//! The backend that a run has for a lane whose own backend is in a thread: it sends orders over a link to that thread, and reports come back.
 ghost use Rattle.std.specs.Prelude.{◌≡◌, [], IfOk};
 
 use crate::lane_link::LaneLink;
@@ -38,6 +38,7 @@ impl<R: Wait + Drop> LinkedBackend<R> {
         Ok(LinkedBackend {
             rt,
             link: Arc::try_clone(link)?,
+            // Which starts were ordered and may still be reported on.
             roll: Roll::new(alloc),
         })
     }

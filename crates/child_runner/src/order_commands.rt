@@ -20,7 +20,8 @@ pub(crate) fn text_of(name: &Name) -> &str
     }
 }
 
-/// Whether the child's output is read: it is for a notification descriptor of 1 or 3 to 9. Page `notifywhenup`.
+/// Whether the child's output is read: it is for a notification descriptor of 1 or 3 to 9, by which a service tells that it is ready. Page
+/// `notifywhenup`.
 pub(crate) fn is_read(fd: Option<u8>) -> bool {
     matches!(fd, Some(1 | 3..=9))
 }
@@ -53,8 +54,8 @@ fn plain_command(alloc: Global, directory: &str, name: &Name) -> Result<Command,
     Ok(command)
 }
 
-// The command of a shell in `directory` that becomes `run`, after it redirected what is written to descriptor `fd` to where the child's output
-// is read. `name`, the service's name, is the only argument of `run`.
+// The command of a shell in `directory` that becomes `run`, after it redirected what is written to descriptor `fd` to where the child's output is
+// read. In its script `$0` is `./run`, and `$1` is `name`, the service's name, which is the only argument of `run`.
 fn shell_command(alloc: Global, directory: &str, name: &Name, fd: u8) -> Result<Command, NoMemory>
     ensures { IfOk result (λ c. line_of c ≡ shell_line directory.now name.now fd) }
 {
@@ -121,7 +122,7 @@ pub(crate) fn kill_command(alloc: Global, pid: u32, signal: u8) -> Result<Comman
     Ok(command)
 }
 
-/// A shell that tries whether it may send itself signals.
+/// A shell that tries whether it may send itself signals: signal 0 does nothing but that. `$$` is the shell's own process number.
 pub(crate) fn probe_command(alloc: Global) -> Result<Command, NoMemory> {
     let mut command = Command::new(alloc, "/bin/sh")?;
     command

@@ -1,4 +1,4 @@
-//! What is known of a child, and what of it is still to be reported.
+//! What is known of a child, the process of a service's program, and what of it is still to be reported to the tree.
 ghost use Rattle.std.specs.Prelude.{◌≡◌, IsTrue, IfSome, false};
 ghost use Rattle.child_runner.specs.Ending.{is_end};
 
@@ -44,12 +44,19 @@ impl Progress {
     /// The progress of a child that is about to start.
     pub fn new() -> Progress {
         Progress {
+            // How far its start has come.
             stage: Stage::Starting,
+            // Whether it may be sent signals.
             signals: Signals::new(),
+            // What it wrote and nobody was told yet.
             written: ArrayVec::new(),
+            // Whether what it writes is still read.
             is_output_read: false,
+            // Whether it wrote its first newline: what comes after that is told to nobody.
             is_heard: false,
+            // How it ended.
             exit: None,
+            // Whether nobody listens to it any more.
             is_given_up: false,
         }
     }
@@ -90,7 +97,7 @@ impl Progress {
         self.signals.reap();
     }
 
-    /// Whether the end mark counts: it was waited for, or nobody listens.
+    /// Whether the end mark, which is written behind the last byte of the child, counts: the child was waited for, or nobody listens.
     pub fn is_mark_due(&self) -> bool {
         self.signals.is_reaped || self.is_given_up
     }
@@ -149,6 +156,7 @@ impl Progress {
         ensures { IfSome result (λ r. IsTrue (is_end r) → self.old.signals.is_shell_out ≡ false) }
     {
         match self.stage {
+            // Nothing has become of its start yet.
             Stage::Starting => None,
             // It is the child's last report: the backend drops the child then.
             Stage::Failed => Some(Report::StartFailed(start.sid, start.generation)),
@@ -171,6 +179,7 @@ impl Progress {
         let mut bytes = ArrayVec::new();
         // Both have room for 64 bytes.
         let _ = bytes.try_extend_from_slice(self.written.as_slice());
+        // They are told now.
         self.written.clear();
         Some(Report::Notify(start.sid, start.generation, bytes))
     }

@@ -1,4 +1,4 @@
-//! A backend's roll: what it was asked and gave, and which of the starts that it was asked have not ended.
+//! A backend's roll: which of the starts that it was asked have not ended; and, for contracts alone, all that it was asked and gave.
 ghost use Rattle.std.specs.Prelude.{◌≡◌, ◌<◌, ◌++◌, ◌∷◌, [], List, length, IsTrue, Some, slice_get};
 ghost use Rattle.std.specs.Prelude.{OnOk, OnErr, IfSome, IfNone, remove, if◌then◌else◌};
 ghost use Rattle.std.specs.List.{All};
@@ -98,7 +98,9 @@ impl Roll {
         ensures { result ≡ record { asked = []; given = []; living = [] } }
     {
         Roll {
+            // The starts that were asked and haven't ended.
             living: Vec::new(alloc),
+            // For contracts alone.
             asked: Vec::new(alloc),
             given: Vec::new(alloc),
         }
@@ -124,6 +126,7 @@ impl Roll {
         }) }
         ensures same { OnErr result (self.new ≡ self.old) }
     {
+        // The memory is taken first, so that at `NoMemory` nothing has changed.
         self.living.reserve(1)?;
         add(&mut self.asked, order)?;
         self.living.push_reserved(*order);
@@ -148,6 +151,7 @@ impl Roll {
         ensures given { IfSome result (λ r. Passes r self.old self.new) }
         ensures none { IfNone result (self.new ≡ self.old) }
     {
+        // A report of no such start is dropped.
         let place = place_of_start(self.living.as_slice(), &report)?;
         // The list of what was given takes no memory, so this is not refused.
         let Ok(()) = add_given(&mut self.given, &report) else {

@@ -1,4 +1,4 @@
-//! The children whose threads are still to be started or still run.
+//! The list of the keeper, the thread that starts the threads of children: those whose threads are still to be started or still run.
 use crate::shared_child::ServiceProcess;
 use s6_events::NoMemory;
 use std::alloc::Global;
@@ -90,9 +90,12 @@ impl ChildList {
         ChildList {
             entries: Mutex::new(Entries {
                 entries: Vec::new(alloc),
+                // The number on the list that the next child gets.
                 next_number: 0,
+                // Whether no more children are taken.
                 is_ending: false,
             }),
+            // Wakes the keeper's thread, when a child needs its thread, or has left.
             changed: Condvar::new(),
         }
     }
@@ -118,6 +121,7 @@ impl ChildList {
     ) -> Result<(), NoMemory> {
         let entry = Entry {
             process: Arc::try_clone(process)?,
+            // The child once more, for its thread.
             for_thread: Some(Arc::try_clone(process)?),
             is_running: false,
         };
@@ -152,10 +156,12 @@ impl ChildList {
         self.changed.notify_all();
     }
 
-    /// Gives up a child that wasn't given up before, and returns it; None where there is none, or memory is refused.
+    /// Gives up a child that wasn't given up before, so that nobody listens to it from now on, and returns it; None where there is none, or memory
+    /// is refused.
     pub fn give_one_up<R: Wait>(&self, rt: &R) -> Option<Arc<ServiceProcess, Global>> {
         let entries = self.entries.lock(rt);
         for entry in entries.entries.as_slice() {
+            // It was not given up before.
             if entry.process.give_up(rt) {
                 return Arc::try_clone(&entry.process).ok();
             }

@@ -1,4 +1,4 @@
-//! A child, as its backend and its threads share it.
+//! A child, the process of a service's program, as its backend and its two threads share it: one waits for it, and one reads its output.
 use crate::bell::Bell;
 use crate::end_mark::END_MARK;
 use crate::progress::Progress;
@@ -40,7 +40,7 @@ pub(crate) struct ServiceProcess {
 }
 
 impl ServiceProcess {
-    /// A child that is about to start.
+    /// A child that is about to start. `number` is its number on the keeper's list; the bell rings when there is something to report of it.
     pub fn new(number: u64, start: &Start, name: &Name, bell: Arc<Bell, Global>) -> ServiceProcess {
         ServiceProcess {
             number,
@@ -49,6 +49,8 @@ impl ServiceProcess {
             bell,
             progress: Mutex::new(Progress::new()),
             changed: Condvar::new(),
+            // Set once it runs: the child and the reading end of its output's pipe, which its threads take over, and a second writing end, for the
+            // end mark.
             child: Mutex::new(None),
             reader: Mutex::new(None),
             writer: Mutex::new(None),
@@ -126,7 +128,8 @@ impl ServiceProcess {
         self.changed.notify_all();
     }
 
-    /// Notes that the child wrote its first newline, and that what it wrote up to there was taken in: the report of its end waits for no more.
+    /// Notes that the child wrote its first newline, and that what it wrote up to there was taken in: the report of its end waits for no more
+    /// output.
     pub fn stop_hearing<R: Wait>(&self, rt: &R) {
         self.progress.lock(rt).stop_hearing();
         self.changed.notify_all();
@@ -136,9 +139,11 @@ impl ServiceProcess {
     /// wrote, up to its first newline, was read, or after a second, and not while a shell is under way.
     pub fn end<R: Wait + Clock>(&self, rt: &R, exit: Exit) {
         self.progress.lock(rt).begin_to_end();
+        // The thread that reads stops there.
         self.write_end_mark(rt);
         let time = Duration::from_millis(LAST_WORDS);
         let progress = self.progress.lock(rt);
+        // Waits until all that it wrote was read, for a second at most.
         let (mut progress, _late) = self
             .changed
             .wait_timeout_while(rt, progress, time, |known| !known.may_end());
@@ -148,7 +153,7 @@ impl ServiceProcess {
         self.bell.ring(rt);
     }
 
-    /// Whether the end mark counts by now.
+    /// Whether the end mark counts by now: the child was waited for, or nobody listens to it.
     pub fn is_mark_due<R: Wait>(&self, rt: &R) -> bool {
         self.progress.lock(rt).is_mark_due()
     }
@@ -176,6 +181,7 @@ impl ServiceProcess {
     /// The next report of the child; None where there is nothing to report.
     pub fn next_report<R: Wait>(&self, rt: &R) -> Option<Report> {
         let report = self.progress.lock(rt).next_report(&self.start)?;
+        // There may be room for more bytes of the child, for which `write` waits.
         self.changed.notify_all();
         Some(report)
     }

@@ -1,4 +1,4 @@
-//! The shell that sends signals.
+//! The shell that sends signals: it runs `kill` with the number of the child's process.
 use crate::order_commands::{kill_command, probe_command};
 use crate::shared_child::ServiceProcess;
 use order_lanes::AskFault;

@@ -1,4 +1,4 @@
-//! When a signal may be sent to a child's process number.
+//! When a signal may be sent to a child's process number: by one shell at a time, until the child was waited for (reaped).
 ghost use Rattle.std.specs.Prelude.{◌≡◌, ◌↔◌, IsTrue, Some, None, IfSome, IfNone, true, false};
 
 /// What keeps the reaping of a child and the signals to it apart. It is behind a lock, which nobody holds while a shell runs: meanwhile

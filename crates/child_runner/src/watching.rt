@@ -1,4 +1,4 @@
-//! The threads of one child: one waits for it, and another reads its output, if that is read.
+//! The threads of one child: one waits for it, and another reads its output, up to the mark that is written behind the child's last byte.
 ghost use Rattle.std.specs.Prelude.{◌≤◌, length};
 
 use crate::end_mark::{Telling, telling_of};
@@ -25,6 +25,7 @@ pub(crate) fn watch<R: Threads + Wait + Clock + Copy + Send + Drop + 'static>(
     roster: &ChildList,
     process: Arc<ServiceProcess, Global>,
 ) {
+    // None only if the child was taken over before.
     if let Some(child) = process.take_child(&rt) {
         let listener = await_end(rt, &process, child);
         if let Some(listener) = listener {
@@ -45,11 +46,13 @@ fn await_end<R: Threads + Wait + Clock + Copy + Send + Drop + 'static>(
     if process.is_output_read(&rt) {
         listener = start_listening(rt, process);
         if listener.is_none() {
+            // Nobody could read its output.
             process.stop_reading(&rt);
             let _ = child.kill();
         }
     }
     let status = child.wait();
+    // Its end may be reported now.
     process.end(&rt, exit_of(status));
     listener
 }
@@ -60,6 +63,7 @@ fn start_listening<R: Threads + Wait + Clock + Copy + Send + Drop + 'static>(
     process: &Arc<ServiceProcess, Global>,
 ) -> Option<JoinHandle<()>> {
     let theirs = Arc::try_clone(process).ok()?;
+    // `listen` reads the output to its end.
     Builder::new()
         .stack_size(STACK)
         .spawn(&rt, move || listen(rt, theirs))
@@ -113,6 +117,7 @@ fn listen<R: Wait + Drop>(rt: R, process: Arc<ServiceProcess, Global>) {
 
 // Reads the child's output until the end mark or the end of the pipe, and tells what the child writes up to its first newline.
 fn listen_to<R: Wait>(rt: &R, process: &ServiceProcess, reader: &mut PipeReader) {
+    // What was read and not told yet, how many bytes more may be told, and whether the first newline was told.
     let mut hearing = Hearing {
         heard: ArrayVec::new(),
         limit: LineLimit::new(),
@@ -120,6 +125,7 @@ fn listen_to<R: Wait>(rt: &R, process: &ServiceProcess, reader: &mut PipeReader)
     };
     for _ in 0..u64::MAX {
         let is_at_end = !read_more(reader, &mut hearing.heard);
+        // Tells what may be told now. True at the end.
         if hear(rt, process, &mut hearing, is_at_end) {
             break;
         }
@@ -143,6 +149,7 @@ fn read_more(reader: &mut PipeReader, heard: &mut ArrayVec<u8, PART>) -> bool {
 // Tells those of the bytes read so far that may be told now, which at the end of the output are all. Returns whether nothing more will be
 // read.
 fn hear<R: Wait>(rt: &R, process: &ServiceProcess, hearing: &mut Hearing, is_at_end: bool) -> bool {
+    // How many bytes may be told, and whether the mark follows them. It counts only once the child was waited for, or nobody listens.
     let mut telling = telling_of(hearing.heard.as_slice(), process.is_mark_due(rt));
     if is_at_end && !telling.is_last {
         telling = Telling {
@@ -161,6 +168,7 @@ fn tell<R: Wait>(rt: &R, process: &ServiceProcess, hearing: &mut Hearing, count:
     let (told, kept) = hearing.heard.as_slice().split_at(count);
     let mut rest = ArrayVec::new();
     let _ = rest.try_extend_from_slice(kept);
+    // After the first newline nothing more is told.
     if !hearing.is_told {
         hearing.is_told = tell_line(rt, process, &mut hearing.limit, told);
     }
@@ -180,6 +188,7 @@ fn tell_line<R: Wait>(
         }
         return false;
     };
+    // Where the line is too long, only its newline is told.
     if limit.admit(place) {
         process.write(rt, &bytes[..=place]);
     } else {

@@ -1,4 +1,4 @@
-//! The connections of a tree, by their seats.
+//! The connections of a tree, by their seats: a seat is the number of a connection. The driver, the thread that drives all runs, uses the desk.
 use crate::run_board::RunBoard;
 use arrayvec::ArrayVec;
 use channel_names::Channels;
@@ -31,7 +31,7 @@ pub struct ClientDesk {
 }
 
 impl ClientDesk {
-    /// Nobody is connected. `NoMemory` where memory is refused.
+    /// Nobody is connected, and nothing waits. `has_record`: whether runs are recorded. `NoMemory` where memory is refused.
     pub fn new(alloc: Global, has_record: bool) -> Result<ClientDesk, NoMemory> {
         let mut connections = Vec::with_capacity(alloc, SEAT_COUNT)?;
         let mut untaken_acts = Vec::with_capacity(alloc, SEAT_COUNT)?;
@@ -41,16 +41,22 @@ impl ClientDesk {
         }
         Ok(ClientDesk {
             connections,
+            // The list of services (roster), and how many steps it has noted.
             notes: StepNotes::new(alloc),
+            // The tree's clock, in milliseconds.
             now: 0,
+            // By seats: the act that the ring of a connection has not taken yet.
             untaken_acts,
+            // By seats: whether something was posted since the connection was last woken.
             posted: [false; SEAT_COUNT],
             has_record,
+            // The seats that wait for the run to be recorded.
             recorders: ArrayVec::new(),
         })
     }
 
-    /// Hands the connection on this seat what its client asks, or tells it that the client has left.
+    /// Hands the connection on this seat what its client asks, or tells it that the client has left. The caller is where the connection's thread
+    /// leaves the requests.
     pub fn hand_over<R: Wait>(&mut self, context: &Context<'_, R>, seat: usize) {
         if let (Some(caller), Some(connection)) = (
             context.caller(seat),
@@ -60,7 +66,8 @@ impl ClientDesk {
         }
     }
 
-    /// Begins what comes next for the connection on this seat, and answers what is to be done. The present moment is in milliseconds.
+    /// Begins what comes next for the connection on this seat, and answers what is to be done. The moment `now` is the present one, and `self.now`
+    /// the tree's clock, both in milliseconds.
     pub fn begin(&mut self, seat: usize, now: u64) -> Todo {
         match self.connections.get_mut(seat) {
             Some(connection) => connection.begin(self.now, now),
@@ -76,7 +83,7 @@ impl ClientDesk {
             .any(|connection| connection.is_ready())
     }
 
-    /// Keeps an act of the connection on this seat, which its ring didn't take.
+    /// Keeps an act, what an input asks of the tree, of the connection on this seat, since its ring had no room for it.
     pub fn hold(&mut self, seat: usize, act: Act<Global>) {
         if let Some(held) = self.untaken_acts.get_mut(seat) {
             *held = Some(act);
@@ -91,8 +98,8 @@ impl ClientDesk {
         }
     }
 
-    /// Has the connection on this seat wait until the run is recorded, and returns true. Where runs are not recorded it returns false, and
-    /// the request is refused by `OwnAnswer::Record`.
+    /// Has the connection on this seat wait until the run is recorded, and returns true. Where runs are not recorded (`has_record`) it returns
+    /// false, and the request is refused by `OwnAnswer::Record`. `recorders` are the seats that wait.
     pub fn await_record<R: Wait>(&mut self, context: &Context<'_, R>, seat: usize) -> bool {
         let waits = self.has_record && self.recorders.try_push(seat).is_ok();
         if !waits {
@@ -101,17 +108,21 @@ impl ClientDesk {
         waits
     }
 
-    /// Makes the seat free for the next connection, once all that this one made is ended.
+    /// Makes the seat free for the next connection, once all that this one made is ended. The caller is where the connection's thread leaves its
+    /// requests, and waits.
     pub fn free<R: Wait>(&mut self, context: &Context<'_, R>, seat: usize) {
         if let Some(connection) = self.connections.get_mut(seat) {
+            // The seat begins anew, for the next client.
             *connection = Connection::new(context.alloc());
         }
         if let Some(caller) = context.caller(seat) {
+            // The thread of the connection that has left waits for this.
             caller.free(context.rt);
         }
     }
 
-    /// Where the roster has grown long and the board shows the last step, the roster forgets the services that have no row any more.
+    /// Where the roster, the list of services that scans added, has grown long, and the board shows the last step, the roster forgets the services
+    /// that have no row on the board any more.
     pub fn forget_gone<C: Channels, R: Wait>(
         &mut self,
         context: &Context<'_, R>,
@@ -128,7 +139,7 @@ impl ClientDesk {
         }
     }
 
-    // Whether something is still to be told to the connection on this seat, though it asks nothing.
+    // Whether something is still to be told to the connection on this seat, though it asks nothing: a match, a release or a letter.
     pub(crate) fn is_told_more(&self, seat: usize) -> bool {
         match self.connections.get(seat) {
             Some(connection) => connection.is_told_more(),

@@ -1,4 +1,4 @@
-//! Posting to connections. What is posted is written once the connection is woken.
+//! Posting to connections: a post waits in the connection's mailbox, and is written once it is woken. A seat is the number of a connection.
 use crate::client_desk::ClientDesk;
 use crate::run_board::RunBoard;
 use arrayvec::ArrayVec;
@@ -22,8 +22,8 @@ fn post_text<R: Wait>(context: &Context<'_, R>, seat: usize, text: &Result<Vec<u
 }
 
 impl ClientDesk {
-    /// Posts all of these, in order. They are what one step tells connections. `reply` is the reply to that step: it is the text of each
-    /// answer `TheReply`.
+    /// Posts all of these, in order. They are what one step tells connections: answers, and news (matches, releases and letters). `reply` is the
+    /// reply to that step: it is the text of each answer `TheReply`. `post_line` posts it, since a text that is made here may be refused memory.
     pub fn post_all<C: Channels, R: Wait>(
         &mut self,
         context: &Context<'_, R>,
@@ -42,7 +42,8 @@ impl ClientDesk {
         }
     }
 
-    /// Posts an answer that is no reply to a step.
+    /// Posts an answer that is no reply to a step. A status is read from the board, which has the rows of the services; the others are texts of
+    /// the server's own.
     pub fn give<C: Channels, R: Wait>(
         &mut self,
         context: &Context<'_, R>,
@@ -56,8 +57,8 @@ impl ClientDesk {
         }
     }
 
-    // Posts the status of these services, read from the board. `refused NoMemory` is posted instead where memory is refused, and where states
-    // are asked but the last step of the run is missing on the board or was not noted in the roster (`notes` says so).
+    // Posts the status of these services, read from the board. `refused NoMemory` is posted instead where memory is refused, and where states are
+    // asked but the last step of the run is missing on the board or was not noted in the roster, the list of services (`notes` says so).
     fn post_status<C: Channels, R: Wait>(
         &mut self,
         context: &Context<'_, R>,
@@ -70,6 +71,7 @@ impl ClientDesk {
             return self.post_answer(context, seat, OwnAnswer::NoMemory.text());
         }
         let shared = context.shared();
+        // The text of the status. The rows that are read are kept in `rows`, for the next status.
         let text = shared.rows.read(
             context.rt,
             shared.alloc,
@@ -86,6 +88,7 @@ impl ClientDesk {
     }
 
     // Posts an own answer: one that the server gives by itself, and that is not the reply to a step. A status is none: it is read from the board.
+    // `post_answer` posts a constant text; `post_line` posts a text that is made here, which may have been refused memory.
     pub(crate) fn post_own<R: Wait>(
         &mut self,
         context: &Context<'_, R>,
@@ -101,13 +104,14 @@ impl ClientDesk {
                 self.post_line(context, seat, &recorded_line(context.alloc(), steps));
             }
             Answer::Clock => {
+                // The time of day at which the server began.
                 let since = context.shared().clock.since;
                 self.post_line(context, seat, &clock_line(context.alloc(), since, self.now));
             }
         }
     }
 
-    // Posts the text of an answer. Where memory for it was refused, the connection is ended.
+    // Posts the text of an answer that was made for it. Where memory for the text was refused, the connection is ended.
     fn post_line<R: Wait>(
         &mut self,
         context: &Context<'_, R>,
@@ -118,7 +122,7 @@ impl ClientDesk {
         self.note_answer(context, seat);
     }
 
-    // Posts the text of an answer.
+    // Posts the text of an answer, of which no memory was refused, and notes that a request is answered.
     pub(crate) fn post_answer<R: Wait>(
         &mut self,
         context: &Context<'_, R>,
@@ -129,7 +133,8 @@ impl ClientDesk {
         self.note_answer(context, seat);
     }
 
-    // Posts news (a match, a release or a letter) to the connection on this seat, and notes whether it may still be told more.
+    // Posts news (a match, a release or a letter) to the connection on this seat. They answer no request; `keep` notes whether it may still be
+    // told more though it asks nothing, so that it is not ended.
     fn post_news<R: Wait>(&mut self, context: &Context<'_, R>, seat: usize, news: &News) {
         post_text(context, seat, &news_lines(context.alloc(), news));
         self.mark_to_be_woken(seat);
@@ -138,7 +143,7 @@ impl ClientDesk {
         }
     }
 
-    // Notes that a request of the connection is answered.
+    // Notes that a request of the connection is answered, so that it is woken, and its thread (by `caller`) doesn't wait for this answer any more.
     fn note_answer<R: Wait>(&mut self, context: &Context<'_, R>, seat: usize) {
         self.mark_to_be_woken(seat);
         if let Some(caller) = context.caller(seat) {
@@ -146,7 +151,7 @@ impl ClientDesk {
         }
     }
 
-    // Notes that something was posted to the connection, so that it is woken.
+    // Notes that something was posted to the connection, so that `wake_all` wakes it.
     fn mark_to_be_woken(&mut self, seat: usize) {
         if let Some(posted) = self.posted.get_mut(seat) {
             *posted = true;
@@ -156,6 +161,7 @@ impl ClientDesk {
     /// Tells the connections that wait for it that the run is recorded, and how many steps the record has now. Wakes all to which something
     /// was posted.
     pub fn tell_recorded<R: Wait>(&mut self, context: &Context<'_, R>, steps: u64) {
+        // `recorders` are the seats that wait; nobody waits afterwards.
         let recorders = mem::replace(&mut self.recorders, ArrayVec::new());
         for seat in &recorders {
             // `recorded` gives an answer unless the client has left.

@@ -1,4 +1,4 @@
-//! What can't be done for a connection is refused.
+//! What can't be done for a connection is refused. A seat is the number of a connection.
 use crate::client_desk::ClientDesk;
 use line_server::SEAT_COUNT;
 use server_rules::{Answer, OwnAnswer, Todo};
@@ -30,6 +30,7 @@ impl ClientDesk {
     /// connection for which something is under way. What a connection that has left made is ended once steps are made again.
     pub fn refuse_all<R: Wait>(&mut self, context: &Context<'_, R>) {
         for seat in 0..SEAT_COUNT {
+            // Takes over what the client has asked.
             self.hand_over(context, seat);
             for _ in 0..TURN {
                 if !self.is_refused(context, seat) {
@@ -46,6 +47,7 @@ impl ClientDesk {
         let Some(connection) = self.connections.get_mut(seat) else {
             return false;
         };
+        // Nothing is to be posted where the connection has no request that may be refused now.
         let Todo::Give(Answer::Own(reason)) = connection.refuse_next(OwnAnswer::NoMemory) else {
             return false;
         };

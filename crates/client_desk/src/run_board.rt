@@ -1,4 +1,4 @@
-//! The board of a run, as the driver reads it.
+//! The board of a run, as the driver reads it. A board shows the status rows of all services, as they are after some step.
 use channel_names::Channels;
 use status_board::BoardReader;
 
@@ -17,6 +17,7 @@ impl<C: Channels> RunBoard<C> {
     pub fn new(reader: BoardReader<C>) -> RunBoard<C> {
         RunBoard {
             reader,
+            // No step was made, so there is none that the board doesn't show.
             made: 0,
             is_shown: true,
         }

@@ -70,7 +70,7 @@ const ALL: [ControlLetter; 17] = [
 ];
 
 impl ControlLetter {
-    /// The letter that this byte stands for; None where it stands for none.
+    /// The letter that this byte stands for, looked for among all 17; None where it stands for none.
     #[tactic(auto, unfolding(crate::specs::ControlLetter::letter_of_byte))]
     pub fn of_byte(byte: u8) -> Option<ControlLetter>
         ensures { result ≡ letter_of_byte byte }

@@ -23,7 +23,9 @@ pub fn day_millisecond(millis: u64) -> Option<DayText> {
 
 // The time of day `millis` milliseconds after the beginning of 1970, with `places` decimals of a second; None past the year 9999.
 fn day_text(millis: u64, places: u8) -> Option<DayText> {
+    // There is no instant, and so no text, past the year 9999.
     let instant = Timestamp::from_nanosecond(i128::from(millis) * MILLISECOND).ok()?;
+    // It prints this many decimals of a second.
     let printer = DateTimePrinter::new().precision(Some(places));
     Some(printer.timestamp_text(instant))
 }
@@ -37,7 +39,7 @@ fn is_told(told: Option<DayText>, text: &str) -> bool {
     }
 }
 
-// Tests the texts of some times of day, and that there is none past the year 9999.
+// Tests the texts of some times of day, to the second and to the millisecond, and that there is none past the year 9999.
 #[test]
 fn times_of_day_are_told(rt: HostRuntime) {
     assert!(rt; is_told(day_second(0), "1970-01-01T00:00:00Z"));

@@ -1,4 +1,5 @@
-//! The timers that are set, and which of them are due.
+//! The timers that are set, at most one for each service, and which of them are due. They are kept twice: in `timers` in the order of the
+//! serials of their services, and in `queue` in the order of their moments.
 ghost use Rattle.std.specs.Prelude.{◌≡◌, ◌+◌, ◌<◌, ◌≤◌, [], length, IsOk, IfOk, OnOk, OnErr, IfSome, IsSomeAnd, nat_lt, take, slice_get, true, false};
 ghost use Rattle.std.specs.List.{list_all};
 ghost use Rattle.deadlines.specs.Queue.{HaveSameTimers, in_moment_order};
@@ -115,8 +116,8 @@ fn is_at(timers: &[Timer], place: usize, sid: Sid) -> bool
     timers.get(place).is_some_and(|timer| timer.sid == sid)
 }
 
-// Adds the services whose timers are set to a moment at most `now`, in rising serial. `queue` has the same timers as `timers`, and tells
-// by its first one whether there are any.
+// Adds the services whose timers are set to a moment at most `now`, in rising serial. `timers` is in the order of serials; `queue` has the same
+// timers in the order of moments, so that its first one tells whether any is due.
 fn add_due<B: Allocator>(
     timers: &[Timer],
     queue: &[Timer],
@@ -143,20 +144,24 @@ fn add_due<B: Allocator>(
 }
 
 impl<A: Allocator + Copy> Deadlines<A> {
-    /// Deadlines with no timer set. They keep the allocator.
+    /// Deadlines with no timer set. They keep the allocator. A timer that is set goes into both `timers` (in the order of serials) and `queue` (in
+    /// the order of moments).
     pub fn new(alloc: A) -> Deadlines<A>
         ensures { result.timers ≡ [] }
     {
         Deadlines {
             timers: Vec::new(alloc),
             queue: Vec::new(alloc),
+            // The memory of the last committed plan, which the next one uses: none yet.
             spare: Vec::new(alloc),
+            // The services that the last search found due: none yet.
             found: Vec::new(alloc),
         }
     }
 
-    /// Sets the timer of a service to a moment, in place of the one that it had. It always succeeds where there is still room.
-    /// `NoMemory` where memory is refused: nothing has changed then, and a plan still has its room.
+    /// Sets the timer of a service to a moment, in place of the one that it had. It always succeeds where there is still room. `NoMemory` where
+    /// memory is refused: nothing has changed then, and a plan still has its room. Both lists of the timers, `timers` and `queue`, get room for one
+    /// more first.
     pub fn set(&mut self, sid: Sid, at: At) -> Result<(), NoMemory>
         ensures ok { OnOk result (self.new.timers ≡ with_timer sid at self.old.timers) }
         ensures err { OnErr result (self.new.timers ≡ self.old.timers) }
@@ -169,7 +174,7 @@ impl<A: Allocator + Copy> Deadlines<A> {
         Ok(())
     }
 
-    // Sets the timer of a service, for which there is room in both lists.
+    // Sets the timer of a service, for which there is room in both lists: `timers`, in the order of serials, and `queue`, in the order of moments.
     fn put(&mut self, sid: Sid, at: At)
         requires { 0 < self.old.spare_capacity }
         ensures timers { self.new.timers ≡ with_timer sid at self.old.timers }
@@ -177,6 +182,7 @@ impl<A: Allocator + Copy> Deadlines<A> {
     {
         let place = place_of(&self.timers, sid);
         let timer = Timer { sid, at };
+        // The service has a timer: it is replaced, in both lists.
         if is_at(&self.timers, place, sid) {
             let old = self.timers[place];
             take_out(&mut self.queue, &old);
@@ -188,7 +194,7 @@ impl<A: Allocator + Copy> Deadlines<A> {
         }
     }
 
-    /// Clears the timer of a service, where it was set.
+    /// Clears the timer of a service, where it was set: it is taken out of both lists, `timers` and `queue`.
     pub fn clear(&mut self, sid: Sid)
         ensures timers { self.new.timers ≡ without_timer sid self.old.timers }
         ensures room { self.old.spare_capacity ≤ self.new.spare_capacity }
@@ -243,10 +249,12 @@ impl<A: Allocator + Copy> Deadlines<A> {
         ensures same_room { self.old.spare_capacity ≤ self.new.spare_capacity }
         ensures quiet { changes.now ≡ [] → IsOk result }
     {
+        // The list of the last plan (`spare`) is used again for this one.
         let none = Vec::new(*self.timers.allocator());
         let mut planned = std::mem::replace(&mut self.spare, none);
         planned.clear();
         planned.extend_from_slice(changes)?;
+        // Each change may set a timer, which is kept in both lists.
         self.timers.reserve(changes.len())?;
         self.queue.reserve(changes.len())?;
         Ok(DeadlinesPlan { changes: planned })
@@ -260,6 +268,7 @@ impl<A: Allocator + Copy> Deadlines<A> {
         for change in &plan.changes {
             self.make(change);
         }
+        // The memory of the plan's list is kept for the next plan.
         self.spare = plan.changes;
     }
 

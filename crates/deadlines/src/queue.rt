@@ -1,4 +1,4 @@
-//! Timers in the order of their moments.
+//! Timers in the order of their moments; those of one moment in the order of the serials of their services.
 ghost use Rattle.std.specs.Prelude.{◌≡◌, ◌+◌, ◌<◌, ◌≤◌, ℕ, [], length, not, IfSome, IsSomeAnd, take, slice_get, true, false, sum_by, vec_len, vec_capacity};
 ghost use Rattle.std.specs.List.{list_all};
 ghost use Rattle.deadlines.specs.Queue.{is_before, in_moment_order, is_this};
@@ -9,7 +9,7 @@ use crate::timer::Timer;
 use s6_events::At;
 use std::alloc::Allocator;
 
-// Whether a timer goes off before another one.
+// Whether a timer goes off before another one: at an earlier moment, or at the same one with a lower serial of its service (`sid`).
 fn is_before(timer: &Timer, other: &Timer) -> bool
     ensures { result ≡ is_before timer.now other.now }
 {

@@ -24,6 +24,7 @@ pub enum DeathItem {
 
 /// What fills the unused places of a list of fixed size.
 impl Default for DeathItem {
+    // What fills the unused places of a list of fixed size: nobody reads it.
     fn default() -> DeathItem {
         DeathItem::Code(0)
     }
@@ -44,7 +45,7 @@ impl Model for DeathList {
     ghost view = { λ l. l.items.items };
 }
 
-// Whether an item names the exit.
+// Whether an item names the exit: a code or a range names programs that ended by themselves with such a code, a signal those that it killed.
 fn names_exit(item: &DeathItem, exit: Exit) -> bool
     ensures { result ≡ item_names item.now exit }
 {
@@ -95,7 +96,7 @@ fn dash_in(word: &[u8]) -> Option<usize>
     word.iter().position(|byte| *byte == b'-')
 }
 
-// The item that a word spells.
+// The item that a word spells: a range where it has a dash, as `1-2`, else an exit code or a signal. None where it spells none of these.
 fn item_of(word: &[u8]) -> Option<DeathItem>
     ensures { result ≡ spelled_item word.now }
 {
@@ -113,7 +114,7 @@ fn words_of<A: Allocator + Copy>(alloc: A, text: &[u8]) -> Result<Vec<&[u8], A>,
     text.split(|byte| *byte == b',').collect(alloc)
 }
 
-// The list that these words spell, an item each; None where one spells no item, or there are more than 32.
+// The list that these words spell, an item each; None where one spells no item, or there are more words than the 32 items that a list may have.
 fn list_in(words: &[&[u8]]) -> Option<DeathList>
     ensures { result ≡ list_of (map (λ w. w.now) words.now) }
 {

@@ -1,4 +1,4 @@
-//! The last deaths of a service.
+//! The last deaths of a service: its tally, which lies in a ring buffer.
 ghost use Rattle.std.specs.Prelude.{◌≡◌, ◌++◌, ◌∷◌, [], IfOk, List, ℕ};
 ghost use Rattle.s6_events.specs.declared.exit.Exit.{Exit};
 ghost use Rattle.death_tally.specs.LastDeaths.{Tallies, new_tally, with_death};
@@ -30,8 +30,8 @@ impl<A: Allocator> Model for Tally<A> {
 }
 
 impl<A: Allocator + Copy> Tally<A> {
-    /// An empty tally that keeps at most `most` deaths; 0 keeps none. It takes the memory for all of them. `NoMemory` where that is
-    /// refused.
+    /// An empty tally that keeps at most `most` deaths; 0 keeps none. It takes the memory for all of them. `NoMemory` where that is refused. The
+    /// deaths will lie in a ring buffer (`ring`) of that many places; there is none where `most` is 0.
     pub fn new(alloc: A, most: u16) -> Result<Tally<A>, NoMemory>
         ensures { IfOk result (λ tally. tally ≡ new_tally most) }
     {

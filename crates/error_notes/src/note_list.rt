@@ -1,4 +1,4 @@
-//! The notes that wait to be written, up to a limit, and how many were lost.
+//! The notes, whole lines for standard error, that wait to be written, up to a limit of bytes, and how many were lost.
 ghost use Rattle.std.specs.Prelude.{◌≡◌, ◌++◌, ◌+◌, ◌<◌, ◌≤◌, [], Err, length, IsTrue, ◌↔◌, OnOk, OnErr, true, false};
 ghost use Rattle.error_notes.specs.Notes.{notes_limit, one_more};
 ghost use Rattle.error_notes.specs.declared.note_list.LostNote.TheVariants.{Full, Closed};
@@ -27,6 +27,7 @@ impl From<AllocError> for LostNote {
 
     ghost from_gives = { λ _ why. why ≡ NoMemory };
 
+    // Where memory for a note is refused, the note is lost for that reason.
     fn from(_: AllocError) -> LostNote {
         LostNote::NoMemory
     }
@@ -93,6 +94,7 @@ impl<A: Allocator + Copy> NoteList<A> {
         if !self.is_open {
             return Err(LostNote::Closed);
         }
+        // What waits is never longer than the limit.
         if note.len() > NOTES_LIMIT - self.bytes.len() {
             return Err(LostNote::Full);
         }
@@ -115,6 +117,7 @@ impl<A: Allocator + Copy> NoteList<A> {
         ensures list { self.new ≡ record self.old { waiting = []; lost = 0 } }
     {
         text.clear();
+        // What waited is in `text` now, and the list goes on with the memory of `text`.
         std::mem::swap(&mut self.bytes, text);
         let lost = self.lost;
         self.lost = 0;

@@ -1,4 +1,4 @@
-//! A writer that posts lines, and the records of a log, as notes.
+//! A writer that posts lines, and the records of a log, as notes: whole lines for standard error, which another thread writes.
 ghost use Rattle.std.specs.Prelude.{◌≡◌, Some, [], true};
 
 use crate::note_list::NOTES_LIMIT;
@@ -29,7 +29,9 @@ impl<'a, R: Wait> NoteWriter<'a, R> {
         NoteWriter {
             rt,
             notes,
+            // What was written and isn't posted yet.
             line: Vec::new(notes.alloc),
+            // Whether some of that was lost.
             has_lost_some: false,
         }
     }
@@ -44,6 +46,7 @@ impl<'a, R: Wait> NoteWriter<'a, R> {
 
     // Posts the lines, or counts them as one note that was lost.
     fn post_lines(&mut self) {
+        // A part is missing, so none of it is posted.
         if self.has_lost_some {
             self.notes.lose(self.rt);
         } else {
@@ -55,8 +58,10 @@ impl<'a, R: Wait> NoteWriter<'a, R> {
 }
 
 impl<'a, R: Wait> Write for NoteWriter<'a, R> {
+    // Posts the whole lines as one note, and keeps what is behind the last newline until its line ends.
     fn write(&mut self, bytes: &[u8]) -> io::Result<usize> {
         match bytes.iter().rposition(|byte| *byte == b'\n') {
+            // All up to the last newline is whole lines, which are posted. The rest waits for its newline.
             Some(last) => {
                 self.add(&bytes[..=last]);
                 self.post_lines();
@@ -67,6 +72,7 @@ impl<'a, R: Wait> Write for NoteWriter<'a, R> {
         Ok(bytes.len())
     }
 
+    // What is kept is no whole line yet, so there is nothing to post.
     fn flush(&mut self) -> io::Result<()> {
         Ok(())
     }
@@ -77,12 +83,15 @@ impl<'a, R: Wait> Log for NoteWriter<'a, R> {
 
     ghost target_of = { λ _. Some [] };
 
+    // Every record of the log is told.
     fn enabled(&self, _metadata: &Metadata<'_>) -> bool {
         true
     }
 
+    // Posts a record of the log as a note of one line. Where memory for the line is refused, the note counts as lost.
     fn log<D: Display, K: Source, S: Spans>(&self, record: &Record<'_, D, K, S>) {
         let alloc = self.notes.alloc;
+        // The record as one line.
         match format!(in alloc; "{}\n", Line::new(record)) {
             Ok(line) => self.notes.post(self.rt, line.as_bytes()),
             Err(_) => self.notes.lose(self.rt),

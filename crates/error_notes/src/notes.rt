@@ -1,4 +1,4 @@
-//! The notes that anybody posts, and for which the thread that writes them waits.
+//! The notes, whole lines for standard error, that anybody posts, and for which the thread that writes them waits.
 use crate::note_list::NoteList;
 use std::alloc::Global;
 use std::sync::{Condvar, Mutex, Wait};
@@ -23,9 +23,13 @@ impl Notes {
     pub fn new(alloc: Global) -> Notes {
         Notes {
             alloc,
+            // What waits to be written.
             list: Mutex::new(NoteList::new(alloc)),
+            // Notified when that changes.
             changed: Condvar::new(),
+            // Whether all that was posted before the close is written.
             all_written: Mutex::new(false),
+            // Notified once it is.
             written: Condvar::new(),
         }
     }
@@ -35,6 +39,7 @@ impl Notes {
     pub fn post<R: Wait>(&self, rt: &R, note: &[u8]) {
         // A note that is lost is counted by the list.
         let _ = self.list.lock(rt).post(note);
+        // Wakes the thread that writes.
         self.changed.notify_all();
     }
 

@@ -1,4 +1,4 @@
-//! The thread that writes notes.
+//! The thread that writes notes: whole lines for standard error, which other threads post.
 use crate::notes::Notes;
 use arrayvec::ArrayString;
 use std::alloc::Global;
@@ -16,6 +16,7 @@ const STACK: usize = 256 * 1024;
 pub fn write_notes<R: Wait, E: Write>(rt: &R, notes: &Notes, errors: &mut E) {
     let mut text = Vec::new(notes.alloc);
     for _ in rt.forever() {
+        // Waits for notes, moves them into `text`, and says how many were lost since the last time.
         let Some(lost) = notes.wait_for_notes(rt, &mut text) else {
             break;
         };
@@ -24,6 +25,7 @@ pub fn write_notes<R: Wait, E: Write>(rt: &R, notes: &Notes, errors: &mut E) {
             write_loss(errors, lost);
         }
     }
+    // Whoever waits in `await_written` goes on.
     notes.finish(rt);
 }
 
@@ -59,6 +61,7 @@ pub fn start_notes<
         .stack_size(STACK)
         .spawn(&rt, move || write_to(rt, theirs, errors));
     match thread {
+        // The handle of the thread is dropped, and the thread runs on.
         Ok(_unjoined) => Some(notes),
         Err(_) => None,
     }

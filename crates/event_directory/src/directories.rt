@@ -1,4 +1,4 @@
-//! All event directories of a tree.
+//! All event directories of a tree: a step of them is prepared, which changes nothing that is shown, and then made (committed).
 ghost use Rattle.std.specs.Prelude.{◌≡◌, ◌≤◌, ◌<◌, ◌+◌, ◌^◌, ◌++◌, [], IfOk, IsOkAnd, OnOk, OnErr, true, option_map};
 ghost use Rattle.event_directory.specs.Changes.{Offer, directory_request_of, matches_of, directory_answer, directories_after_change};
 ghost use Rattle.event_directory.specs.Changes.DirectoryRequest.{no_directory_request};
@@ -64,6 +64,7 @@ impl<F: Finds, A: Allocator + Copy> Directories<F, A> {
     {
         Directories {
             register: Register::new(alloc),
+            // No step is prepared: no letters for `commit` to hear, no change for it to make, and no call of `prepare` counted.
             is_prepared: false,
             pending: Pending::Nothing,
             number: 0,
@@ -79,7 +80,8 @@ impl<F: Finds, A: Allocator + Copy> Directories<F, A> {
         self.stored_list(id)
     }
 
-    // As `list`, for the proof: its clause speaks only of what is stored.
+    // The letters at which the texts of this subscription matched, and whether it still listens. For the proof of `list`: its clause speaks only of
+    // what is stored.
     fn stored_list(&self, id: SubId) -> Option<SubView<'_>>
         ensures { option_map (λ v. (v.letters.now, v.state)) result ≡ view_in id self.now.shown }
     {
@@ -115,12 +117,12 @@ impl<F: Finds, A: Allocator + Copy> Directories<F, A> {
         ensures quiet { moments.now ≡ [] → directory_request_of change.now ≡ no_directory_request
             → IsOkAnd result (λ plan. (plan.matches.items ≡ []) × (plan.answer ≡ answer.Done)) }
     {
-        // For the proof: with the `?` each outcome is a path of its own.
+        // The `?` is for the proof, which looks at each outcome (done, or refused) by itself.
         let plan = self.prepare_stored(moments, change)?;
         Ok(plan)
     }
 
-    // As `prepare`, for the proof: its clauses speak only of what is stored.
+    // Works out a step, which `commit` then makes. For the proof of `prepare`: its clauses speak only of what is stored.
     #[inline(always)]
     fn prepare_stored(
         &mut self,
@@ -144,7 +146,9 @@ impl<F: Finds, A: Allocator + Copy> Directories<F, A> {
             → IsOkAnd result (λ plan. (plan.matches.items ≡ []) × (plan.answer ≡ answer.Done)) }
     {
         self.forget_prepared();
+        // Each call counts, and its plan has the count as its number.
         self.number = self.number.wrapping_add(1);
+        // The step gives nothing and changes nothing: nothing is prepared.
         if is_unheard(&self.register, moments, change) {
             return Ok(DirectoriesPlan {
                 matches: Vec::new(self.register.allocator()),
@@ -155,7 +159,8 @@ impl<F: Finds, A: Allocator + Copy> Directories<F, A> {
         self.prepare_heard(moments, change)
     }
 
-    // A step that somebody may hear, or that changes something. It is a function of its own, since most steps are heard by nobody.
+    // Prepares a step that somebody may hear, or that changes something: `work_out` adds the matches to its list, and answers what is left to be
+    // done by `commit` (`pending`). It is a function of its own, since most steps are heard by nobody.
     #[inline(never)]
     fn prepare_heard(
         &mut self,
@@ -177,6 +182,7 @@ impl<F: Finds, A: Allocator + Copy> Directories<F, A> {
         ensures idle { OnErr result (self.new.prepared ≡ nothing_prepared self.old.shown) }
     {
         let mut matches = Vec::new(self.register.allocator());
+        // Where memory is refused below, nothing is prepared.
         self.pending = Pending::Nothing;
         self.is_prepared = false;
         let (pending, answer) = work_out(&mut self.register, moments, change, &mut matches)?;
@@ -206,7 +212,8 @@ impl<F: Finds, A: Allocator + Copy> Directories<F, A> {
         }
     }
 
-    // `commit` of a step that somebody hears, or that changes something. It is a function of its own, since most steps are heard by nobody.
+    // Makes a prepared step that somebody hears, or that changes something: first its letters are heard, then its change is made. `offered` is the
+    // pattern for a new subscription, and whether it repeats. It is a function of its own, since most steps are heard by nobody.
     #[inline(never)]
     fn make(&mut self, offered: Option<(F, bool)>)
         ensures after { self.new.shown
@@ -222,7 +229,7 @@ impl<F: Finds, A: Allocator + Copy> Directories<F, A> {
         finish_step(&mut self.register, pending, offered);
     }
 
-    // What was prepared is forgotten.
+    // What was prepared, letters and a change (`pending`), is forgotten: `commit` will not make it.
     fn forget_prepared(&mut self)
         ensures shown { self.new.shown ≡ self.old.shown }
         ensures number { self.new.number ≡ self.old.number }
@@ -255,7 +262,7 @@ impl<A: Allocator + Copy> Directories<Pattern, A> {
     }
 }
 
-// Whether a step gives nothing and changes nothing: it asks for no change, and there is no moment, or no subscription.
+// Whether a step gives nothing and changes nothing: it asks for no change, and there is no moment, or no subscription (the register is silent).
 fn is_unheard<F: Finds, A: Allocator + Copy>(
     register: &Register<F, A>,
     moments: &[Moment],

@@ -1,4 +1,5 @@
-//! One event directory: the subscriptions of a service's events, or of letters that are sent to it.
+//! One event directory: the subscriptions of a service's events, or of letters that are sent to it. Letters are first prepared, which changes
+//! nothing that is shown, then heard: looked at by each subscription whose pattern is still sought (it is live).
 ghost use Rattle.std.specs.Prelude.{◌≡◌, ◌<◌, ◌++◌, ◌∷◌, [], List, IfOk, OnOk, OnErr, IfErr, All, map, ◌+◌, take, drop, IfSome, IfNone, option_map, length, ◌==◌, ◌≤◌, vec_len, vec_capacity};
 ghost use Rattle.event_directory.specs.Sending.{TextSubscription, HaveHeard, after_letter, hits_from, after_letters, hits_from_letters, Sends, Prepares, left_without, new_kept_subscription, new_text_subscription, view_of, kept_without};
 ghost use Rattle.event_directory.specs.Views.{list_of_subscription};
@@ -61,7 +62,7 @@ impl<F: Finds, A: Allocator> Model for Directory<F, A> {
 }
 
 impl<F: Finds, A: Allocator + Copy> Directory<F, A> {
-    /// A directory with no subscription, and no plan.
+    /// A directory with no subscription: of its text no letter is heard yet (`heard`), and there is no plan of letters.
     pub fn new(alloc: A) -> Directory<F, A>
         ensures none { result.standing ≡ [] }
         ensures planned { result.planned ≡ [] }
@@ -115,7 +116,7 @@ impl<F: Finds, A: Allocator + Copy> Directory<F, A> {
         self.take_in(id, pattern, repeats);
     }
 
-    // As `join`, for the proof: its clauses speak only of what is stored.
+    // Subscribes from now on; a place was made before. For the proof of `join`: its clauses speak only of what is stored.
     pub(crate) fn take_in(&mut self, id: SubId, pattern: F, repeats: bool)
         requires { 0 < self.old.room }
         ensures after { self.new.standing ≡
@@ -128,7 +129,7 @@ impl<F: Finds, A: Allocator + Copy> Directory<F, A> {
             .push_reserved(Subscription::new(alloc, id, pattern, repeats));
     }
 
-    // A directory with no subscription, and a place for one.
+    // A directory with no subscription, and a place for one: no letter is heard yet (`heard`), and there is no plan.
     pub(crate) fn with_place(alloc: A) -> Result<Directory<F, A>, NoMemory>
         ensures none { IfOk result (λ d. d.standing ≡ []) }
         ensures room { IfOk result (λ d. 0 < d.room) }
@@ -173,8 +174,8 @@ impl<F: Finds, A: Allocator + Copy> Directory<F, A> {
         self.leave(id);
     }
 
-    // As `unsubscribe`, for the proof: its clauses speak only of what is stored. Where there is no plan, letters that are only prepared
-    // are given up, and those that no subscription needs any more are dropped; else the text stays until the plan is committed.
+    // Ends the subscription of this serial. Where there is no plan, letters that are only prepared are given up, and those that no subscription
+    // needs any more are dropped; else the text stays until the plan is committed.
     fn leave(&mut self, id: SubId)
         ensures after { self.new.standing ≡ kept_without id self.old.standing }
         ensures planned { self.new.planned ≡ kept_without id self.old.planned }
@@ -199,7 +200,7 @@ impl<F: Finds, A: Allocator + Copy> Directory<F, A> {
         self.stored_view(id)
     }
 
-    // As `list`, for the proof: its clause speaks only of what is stored.
+    // What the subscription of this serial has heard. For the proof of `list`: its clause speaks only of what is stored.
     fn stored_view(&self, id: SubId) -> Option<SubView<'_>>
         ensures { option_map (λ v. (v.letters.now, v.state)) result ≡ view_of id self.now.standing }
     {
@@ -225,12 +226,12 @@ impl<F: Finds, A: Allocator + Copy> Directory<F, A> {
         ensures err { OnErr result
             ((self.new.standing ≡ self.old.standing) × (self.new.planned ≡ self.old.planned)) }
     {
-        // For the proof: with the `?` each outcome is a path of its own.
+        // The `?` is for the proof, which looks at each outcome (done, or refused) by itself.
         let hits = self.hear(letter)?;
         Ok(hits)
     }
 
-    // As `send`, for the proof: its clauses speak only of what is stored.
+    // Prepares one letter and hears it. For the proof of `send`: its clauses speak only of what is stored.
     fn hear(&mut self, letter: Letter) -> Result<Vec<(SubId, Hit), A>, NoMemory>
         ensures hits { IfOk result (λ hits. hits.items
             ≡ hits_from F.test letter self.old.standing) }
@@ -246,7 +247,7 @@ impl<F: Finds, A: Allocator + Copy> Directory<F, A> {
         Ok(hits)
     }
 
-    // Begins to prepare: no letter is prepared yet.
+    // Begins to prepare: no letter is prepared yet. The text keeps only the letters that are heard.
     pub(crate) fn begin(&mut self)
         ensures prepared { self.new.prepared ≡ self.old.standing }
         ensures same { self.new.standing ≡ self.old.standing }
@@ -257,7 +258,8 @@ impl<F: Finds, A: Allocator + Copy> Directory<F, A> {
         self.text.truncate(self.heard);
     }
 
-    // Prepares one more letter, and returns the hits that it will give. The letter is not kept where no subscription listens.
+    // Prepares one more letter, and returns the hits (matches of subscriptions) that it will give. The letter is not kept where no subscription
+    // listens.
     pub(crate) fn prepare_more(&mut self, letter: Letter) -> Result<Vec<(SubId, Hit), A>, NoMemory>
         ensures hits { IfOk result (λ hits. hits.items
             ≡ hits_from F.test letter self.old.prepared) }
@@ -291,12 +293,12 @@ impl<F: Finds, A: Allocator + Copy> Directory<F, A> {
         ensures same { self.new.standing ≡ self.old.standing }
         ensures still { OnErr result (self.new.planned ≡ self.old.planned) }
     {
-        // For the proof: with the `?` each outcome is a path of its own.
+        // The `?` is for the proof, which looks at each outcome (done, or refused) by itself.
         let plan = self.prepare_stored(letters)?;
         Ok(plan)
     }
 
-    // As `prepare`, for the proof: its clauses speak only of what is stored.
+    // Prepares these letters, which become the plan. For the proof of `prepare`: its clauses speak only of what is stored.
     fn prepare_stored(&mut self, letters: &[Letter]) -> Result<LettersPlan<A>, NoMemory>
         ensures hits { IfOk result (λ plan. plan
             ≡ hits_from_letters F.test letters.now self.old.standing) }
@@ -340,7 +342,7 @@ impl<F: Finds, A: Allocator + Copy> Directory<F, A> {
         plan.hits
     }
 
-    // Hears what is planned, if there is a plan that is not committed yet. Afterwards there is none.
+    // Hears the letters of the plan, if it is not committed yet: they go behind those that are heard. Afterwards there is none.
     fn hear_planned(&mut self)
         ensures after { self.new.standing ≡ self.old.planned }
         ensures idle { self.new.planned ≡ self.new.standing }
@@ -355,7 +357,7 @@ impl<F: Finds, A: Allocator + Copy> Directory<F, A> {
         self.heard = forget(&mut self.text, &self.subscriptions);
     }
 
-    // Hears what is prepared. Afterwards there is no plan.
+    // Hears what is prepared, and drops letters that no subscription needs any more. Afterwards there is no plan.
     pub(crate) fn hear_prepared(&mut self)
         ensures after { self.new.standing ≡ self.old.prepared }
         ensures idle { self.new.planned ≡ self.new.standing }
@@ -376,7 +378,7 @@ impl<A: Allocator + Copy> Directory<Pattern, A> {
     }
 }
 
-// Prepares several letters, and returns the hits that each of them will give.
+// Prepares several letters, and returns the hits (matches of subscriptions) that each of them will give.
 fn prepare_letters<F: Finds, A: Allocator + Copy>(
     directory: &mut Directory<F, A>,
     letters: &[Letter],
@@ -413,7 +415,7 @@ fn forget<F: Finds, A: Allocator + Copy>(
     left
 }
 
-// A copy of the letters after the first `heard` ones.
+// A copy of the letters of a text after the first `heard` ones: those that are prepared and not heard yet.
 fn copy_after<A: Allocator + Copy>(
     alloc: A,
     text: &[Letter],
@@ -427,7 +429,7 @@ fn copy_after<A: Allocator + Copy>(
     Ok(letters)
 }
 
-// Puts these letters after the first `heard` ones, in place of those that were there; there is room for them.
+// Puts these letters into a text after the first `heard` ones, in place of those that were there; there is room for them.
 fn put_after<A: Allocator + Copy>(text: &mut Vec<Letter, A>, heard: usize, letters: &[Letter])
     requires there { heard ≤ vec_len text.old }
     requires room { heard + length letters.now ≤ vec_capacity text.old }
@@ -437,7 +439,7 @@ fn put_after<A: Allocator + Copy>(text: &mut Vec<Letter, A>, heard: usize, lette
     text.extend_from_slice(letters).unwrap();
 }
 
-// Drops the first `gone` letters.
+// Drops the first `gone` letters of a text.
 fn drop_front<A: Allocator + Copy>(text: &mut Vec<Letter, A>, gone: usize)
     requires { gone ≤ vec_len text.old }
     ensures { text.new.items ≡ drop gone text.old.items }

@@ -77,7 +77,7 @@ impl<A: Allocator> Model for DirectoriesImage<A> {
     } };
 }
 
-// A subscription as plain data; `text` is that of its directory.
+// A subscription as plain data; `text` is that of its directory, of which its own text is the end.
 fn image_of<A: Allocator + Copy>(
     alloc: A,
     text: &[Letter],
@@ -110,7 +110,7 @@ pub fn images_of<A: Allocator + Copy>(
     Ok(images)
 }
 
-/// The subscriptions of all sources as plain data.
+/// The subscriptions of all sources (services and free directories that are listened to) as plain data.
 pub fn source_images<A: Allocator + Copy>(
     alloc: A,
     listened: &[SourceDirectory<Pattern, A>],

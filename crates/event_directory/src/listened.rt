@@ -1,4 +1,5 @@
-//! All event directories that are listened to.
+//! All event directories that are listened to (they have a subscription), each with its source: a service, or a free directory. Letters are
+//! first prepared, which changes nothing that is shown, then heard.
 ghost use Rattle.std.specs.Prelude.{◌≡◌, ◌<◌, ◌++◌, IfOk, OnOk, map, option_map, true, false};
 ghost use Rattle.std.specs.List.{position};
 ghost use Rattle.event_directory.specs.Directories.{is_same_source};
@@ -49,7 +50,7 @@ fn place_in<F: Finds, A: Allocator + Copy>(
         .position(|directory| directory.is_of(source))
 }
 
-/// Prepares one more letter of this source, and adds the hits that it will give to `matches`.
+/// Prepares one more letter of this source, and adds the hits (matches of subscriptions) that it will give to `matches`.
 pub fn hear<F: Finds, A: Allocator + Copy>(
     listened: &mut [SourceDirectory<F, A>],
     source: Source,
@@ -76,7 +77,8 @@ pub fn hear<F: Finds, A: Allocator + Copy>(
     Ok(())
 }
 
-/// Makes a place for one more subscription in the directory of this source. Returns whether the source has a directory.
+/// Makes a place for one more subscription in the directory of this source. Returns whether the source has a directory: one without a subscription
+/// has none.
 pub fn reserve_at<F: Finds, A: Allocator + Copy>(
     listened: &mut [SourceDirectory<F, A>],
     source: Source,
@@ -132,16 +134,18 @@ pub fn leave_at<F: Finds, A: Allocator + Copy>(
 {
     match place_in(listened, source) {
         Some(place) => {
+            // `unsubscribe` tells whether the directory has no subscription left.
             let none_left = listened[place].unsubscribe(id);
             if none_left {
                 let _gone = listened.remove(place);
             }
         }
+        // The source has no directory, so that there is no such subscription.
         None => {}
     }
 }
 
-/// What the subscription of this serial and this source has heard.
+/// What the subscription of this serial and this source has heard; None where there is none.
 pub fn list_at<F: Finds, A: Allocator + Copy>(
     listened: &[SourceDirectory<F, A>],
     source: Source,

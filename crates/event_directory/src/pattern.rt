@@ -40,8 +40,9 @@ impl Model for Pattern {
 }
 
 impl Pattern {
-    /// The pattern of this text. Length, which is looked for first: the text is not 1 to 256 bytes from 0x20 to 0x7e. Refused: `regex`
-    /// refuses the text, or its automaton is larger than `PATTERN_LIMITS` allow. NoMemory: memory is refused.
+    /// The pattern of this text. Length, which is looked for first: the text is not 1 to 256 bytes from 0x20 to 0x7e. Refused: `regex` refuses the
+    /// text, or its automaton is larger than `PATTERN_LIMITS` allow. NoMemory: memory is refused. The matcher that is built searches texts of at
+    /// most 1,024 letters (`TEXT_LIMIT`).
     pub fn build(alloc: Global, text: &str) -> Result<Pattern, PatternFault>
         ensures ok { IfOk result (λ p. p ≡ text.now) }
         ensures expression { IfOk result (λ _. is_expression text.now ≡ true) }
@@ -74,6 +75,7 @@ impl Finds for Pattern {
 
     ghost test = { finds };
 
+    // The matcher takes in (hears) these letters, and tells whether there is a match in them.
     fn finds(&mut self, letters: &[Letter]) -> Result<bool, NoMemory> {
         hear_all(&mut self.matcher, letters)?;
         Ok(self.matcher.has_match())
@@ -90,8 +92,8 @@ fn fault_of(fault: BuildFault) -> PatternFault
     }
 }
 
-// The matcher hears these letters and no others. Where they are those that it heard and some more, it hears only these more: a text
-// mostly grows by a letter.
+// The matcher takes in (hears) these letters and no others, one by one. Where they are those that it heard and some more, it hears only these more:
+// a text mostly grows by a letter. Else it starts again.
 fn hear_all(matcher: &mut TextMatcher, letters: &[Letter]) -> Result<(), NoMemory>
     ensures heard { OnOk result (matcher.new.heard ≡ letters.now) }
     ensures source { matcher.new.source ≡ matcher.old.source }

@@ -1,4 +1,5 @@
-//! What is stored of all event directories.
+//! What is stored of all event directories (the register): names of free ones, subscriptions, and the directory of each source that is listened
+//! to. A source is a service or a free directory. Letters are first prepared, which changes nothing that is shown, then heard.
 ghost use Rattle.std.specs.Prelude.{◌≡◌, ◌<◌, ◌++◌, ◌+◌, ◌^◌, [], IfOk, OnOk, IfSome, IfNone, Some, drop, length, option_map, take, true};
 ghost use Rattle.event_directory.specs.Changes.{directory_request_of};
 ghost use Rattle.event_directory.specs.Hearing.{heard_moments, heard_message, hits_of_moments, hits_of_message};
@@ -65,9 +66,12 @@ impl<F: Finds, A: Allocator + Copy> Register<F, A> {
             { names = []; subscribers = []; followed = []; next = 1 } }
     {
         Register {
+            // The names of the free directories.
             names: Vec::new(alloc),
+            // The subscriptions, and the directories that have one.
             subscribers: Vec::new(alloc),
             listened: Vec::new(alloc),
+            // The serial of the next subscription.
             next: 1,
         }
     }
@@ -84,7 +88,7 @@ impl<F: Finds, A: Allocator + Copy> Register<F, A> {
         SubId(self.next)
     }
 
-    /// Whether there is no subscription.
+    /// Whether there is no subscription: no source has a directory with one.
     pub fn is_silent(&self) -> bool
         ensures { result ≡ true → self.now.followed ≡ [] }
     {
@@ -98,7 +102,7 @@ impl<F: Finds, A: Allocator + Copy> Register<F, A> {
         find_source(&self.subscribers, id)
     }
 
-    /// What the subscription of this serial has heard.
+    /// What the subscription of this serial has heard; None where there is none.
     pub fn list(&self, id: SubId) -> Option<SubView<'_>>
         ensures { option_map (λ v. (v.letters.now, v.state)) result
             ≡ view_in id (shown_in self.now) }
@@ -123,7 +127,7 @@ impl<F: Finds, A: Allocator + Copy> Register<F, A> {
         begin_each(&mut self.listened);
     }
 
-    /// Prepares these moments, and adds the hits that they will give to `matches`.
+    /// Prepares these moments: the letters of the marks of services among them. Adds the hits that they will give to `matches`.
     pub fn hear_moments(
         &mut self,
         moments: &[Moment],
@@ -156,7 +160,7 @@ impl<F: Finds, A: Allocator + Copy> Register<F, A> {
         hear_letters(&mut self.listened, name, message.as_bytes(), matches)
     }
 
-    /// Hears what was prepared.
+    /// Hears what was prepared: each subscription becomes what it was worked out to be.
     pub fn hear_prepared(&mut self)
         ensures after { self.new.followed ≡ self.old.prepared }
         ensures same { without_followed self.new ≡ without_followed self.old }
@@ -174,7 +178,8 @@ impl<F: Finds, A: Allocator + Copy> Register<F, A> {
         Ok(())
     }
 
-    /// Makes all places for one more subscription to this source, and returns the change that is left to be made.
+    /// Makes all places for one more subscription to this source, and returns the change that is left to be made: to join the directory that the
+    /// source has (`Join`), or to give the source a first one (`Start`).
     pub fn reserve_subscription(&mut self, source: &Source) -> Result<Pending<F, A>, NoMemory>
         requires { self.old.next < 2 ^ 63 }
         ensures shown { shown_in self.new ≡ shown_in self.old }
@@ -201,7 +206,7 @@ impl<F: Finds, A: Allocator + Copy> Register<F, A> {
         self.names.push_reserved(name);
     }
 
-    /// Subscribes to a source that has a directory, in places that were made.
+    /// Subscribes to a source that has a directory, in places that were made. The subscription gets the next serial.
     pub fn join(&mut self, source: &Source, pattern: F, repeats: bool)
         requires { CanJoin source.now self.old }
         ensures { shown_in self.new
@@ -213,7 +218,7 @@ impl<F: Finds, A: Allocator + Copy> Register<F, A> {
         self.next += 1;
     }
 
-    /// Subscribes to a source that has no directory yet, in places that were made: it gets this one.
+    /// Subscribes to a source that has no directory yet, in places that were made: it gets this one. The subscription gets the next serial.
     pub fn start(&mut self, mut directory: SourceDirectory<F, A>, pattern: F, repeats: bool)
         requires { CanStart directory.source directory.kept.standing directory.kept.room self.old }
         ensures { shown_in self.new
@@ -222,12 +227,13 @@ impl<F: Finds, A: Allocator + Copy> Register<F, A> {
     {
         let id = SubId(self.next);
         self.subscribers.push_reserved((id, directory.source()));
+        // The directory takes the subscription in, and joins those that are listened to.
         directory.take_in(id, pattern, repeats);
         self.listened.push_reserved(directory);
         self.next += 1;
     }
 
-    /// Ends the subscription of this serial and this source.
+    /// Ends the subscription of this serial and this source: it leaves the list of all subscriptions, and the directory of its source.
     pub fn leave(&mut self, id: SubId, source: Source)
         ensures { shown_in self.new ≡ without_subscription_by id source (shown_in self.old) }
     {
@@ -244,6 +250,7 @@ impl<A: Allocator + Copy> Register<Pattern, A> {
         Ok(DirectoriesImage {
             names: Vec::from_slice(alloc, &self.names)?,
             subscribers: Vec::from_slice(alloc, &self.subscribers)?,
+            // What the subscriptions to each source have heard.
             followed: source_images(alloc, &self.listened)?,
             next: self.next,
         })

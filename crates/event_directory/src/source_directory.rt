@@ -1,4 +1,5 @@
-//! The event directory of one source.
+//! The event directory of one source (a service, or a free directory) that is listened to. Letters are first prepared, which changes nothing
+//! that is shown, then heard.
 ghost use Rattle.std.specs.Prelude.{◌≡◌, ◌<◌, ◌++◌, ◌∷◌, ◌==◌, [], IfOk, OnOk, length, option_map};
 ghost use Rattle.event_directory.specs.Directories.{is_same_source};
 ghost use Rattle.event_directory.specs.Parts.{followed_of};
@@ -65,7 +66,7 @@ impl<F: Finds, A: Allocator + Copy> SourceDirectory<F, A> {
         self.directory.begin();
     }
 
-    /// Prepares one more letter, and returns the hits that it will give.
+    /// Prepares one more letter, and returns the hits (matches of subscriptions) that it will give once it is heard.
     pub fn prepare_more(&mut self, letter: Letter) -> Result<Vec<(SubId, Hit), A>, NoMemory>
         ensures source { self.new.source ≡ self.old.source }
         ensures hits { IfOk result (λ hits. hits.items
@@ -78,7 +79,7 @@ impl<F: Finds, A: Allocator + Copy> SourceDirectory<F, A> {
         self.directory.prepare_more(letter)
     }
 
-    /// Hears what was prepared.
+    /// Hears what was prepared: each subscription becomes what it was worked out to be.
     pub fn hear_prepared(&mut self)
         ensures source { self.new.source ≡ self.old.source }
         ensures after { self.new.kept.standing ≡ self.old.kept.prepared }

@@ -1,4 +1,5 @@
-//! A step of all event directories: its letters, and then one change.
+//! A step of all event directories, first prepared and then finished: its letters, and then one change. What the change leaves to be done when
+//! the step is made is a `Pending`.
 ghost use Rattle.std.specs.Prelude.{◌≡◌, ◌<◌, ◌++◌, ◌^◌, [], None, Some, IfOk, OnOk, option_map};
 ghost use Rattle.event_directory.specs.Changes.{directory_request_of};
 ghost use Rattle.event_directory.specs.Changes.DirectoryRequest.{unsubscribe};
@@ -31,7 +32,8 @@ fn prepare_leave<F: Finds, A: Allocator + Copy>(
     }
 }
 
-// Prepares a change that is not refused, after the moments of its step, and adds the hits that it will give to `matches`.
+// Prepares a change that is not refused, after the moments of its step, and adds the hits that it will give to `matches`. Memory that it needs is
+// taken now. Returns what is left to be done when the step is made, and the answer.
 fn prepare_change<F: Finds, A: Allocator + Copy>(
     register: &mut Register<F, A>,
     change: &DirectoryChange<'_>,
@@ -55,6 +57,7 @@ fn prepare_change<F: Finds, A: Allocator + Copy>(
             register.reserve_name()?;
             Ok((Pending::Make(name), DirectoryAnswer::Done))
         }
+        // The letters of a message are prepared like those of the moments, and then nothing is left to be done.
         DirectoryChange::Send(name, message) => {
             register.hear_message(name, message, matches)?;
             Ok((Pending::Nothing, DirectoryAnswer::Done))
@@ -100,7 +103,7 @@ pub fn work_out<F: Finds, A: Allocator + Copy>(
     }
 }
 
-// Prepares the moments of a step.
+// Prepares the moments of a step: the letters of their marks, with which nothing that was prepared before is mixed.
 fn hear_step<F: Finds, A: Allocator + Copy>(
     register: &mut Register<F, A>,
     moments: &[Moment],
@@ -131,10 +134,12 @@ pub fn finish_step<F: Finds, A: Allocator + Copy>(
     match pending {
         Pending::Nothing => {}
         Pending::Make(name) => register.add_name(name),
+        // The source has a directory already, which the subscription joins.
         Pending::Join(source) => match offered {
             Some((pattern, repeats)) => register.join(&source, pattern, repeats),
             None => {}
         },
+        // The source gets its first subscription, and this directory with it.
         Pending::Start(directory) => match offered {
             Some((pattern, repeats)) => register.start(directory, pattern, repeats),
             None => {}

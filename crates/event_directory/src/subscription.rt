@@ -1,4 +1,5 @@
-//! One subscription: what a letter gives it (a match, Done, Overlong), and where its own text begins in that of its directory.
+//! One subscription: what a letter gives it (a match, Done, Overlong), and where its own text begins in that of its directory. It has two drafts
+//! of what it will be: after the letters that are being prepared (`prepared`), and after those of a plan (`planned`).
 ghost use Rattle.std.specs.Prelude.{◌≡◌, ◌<◌, ◌≤◌, ◌+◌, [], IfOk, OnOk, length, vec_len};
 ghost use Rattle.event_directory.specs.SubscriberList.{hit_between, is_live};
 ghost use Rattle.event_directory.specs.Stored.{heard_in, live_offset, new_reader, new_reading, next_reading};
@@ -23,7 +24,7 @@ pub struct Draft<A: Allocator> {
 }
 
 impl<A: Allocator> Draft<A> {
-    // An empty draft: no text, and still live.
+    // An empty draft (what a subscription will be after letters that are not heard yet): no letter matched, no text, and still live.
     fn new(alloc: A) -> Draft<A>
     where
         A: Copy,
@@ -89,7 +90,7 @@ impl<F: Finds, A: Allocator> Model for Subscription<F, A> {
 }
 
 impl<F: Finds, A: Allocator + Copy> Subscription<F, A> {
-    /// A subscription that is made now, and has heard nothing.
+    /// A subscription that is made now, and has heard nothing. It is live: its pattern is sought.
     pub fn new(alloc: A, id: SubId, pattern: F, repeats: bool) -> Subscription<F, A>
         ensures standing { result.standing ≡ new_reader id (F.source pattern) repeats }
         ensures prepared { result.prepared ≡ new_reading }
@@ -99,9 +100,11 @@ impl<F: Finds, A: Allocator + Copy> Subscription<F, A> {
             id,
             pattern,
             repeats,
+            // The letters at which its texts matched; and how long its own text is (`offset`), from the end of that of its directory.
             letters: Vec::new(alloc),
             state: State::Live,
             offset: 0,
+            // As it will be after letters that are not heard yet: none.
             prepared: Draft::new(alloc),
             planned: Draft::new(alloc),
         }
@@ -163,14 +166,14 @@ impl<F: Finds, A: Allocator + Copy> Subscription<F, A> {
         }
     }
 
-    /// Whether it looks at the next letter that is prepared.
+    /// Whether it looks at the next letter that is prepared: it is still live after those that were prepared before.
     pub fn listens(&self) -> bool
         ensures { result ≡ is_live self.now.prepared.state }
     {
         self.prepared.state == State::Live
     }
 
-    /// Begins to prepare: no letter is prepared yet.
+    /// Begins to prepare: no letter is prepared yet, so that its draft says what it is now.
     pub fn begin(&mut self)
         ensures same { self.new.standing ≡ self.old.standing }
         ensures planned { self.new.planned ≡ self.old.planned }
@@ -181,7 +184,8 @@ impl<F: Finds, A: Allocator + Copy> Subscription<F, A> {
         self.prepared.offset = self.offset;
     }
 
-    /// Prepares `letter`, the last one of `text`, and returns the hit that it will give, if any.
+    /// Prepares `letter`, the last one of `text`, and returns the hit that it will give, if any. Only its draft (`prepared`) changes, which is what
+    /// it will have heard; `offset` is how many letters its own text has.
     pub fn prepare_hit(&mut self, text: &[Letter], letter: Letter) -> Result<Option<Hit>, NoMemory>
         requires { live_offset self.old.prepared < length text.now }
         ensures same { self.new.standing ≡ self.old.standing }
@@ -195,6 +199,7 @@ impl<F: Finds, A: Allocator + Copy> Subscription<F, A> {
             ≡ next_reading (F.test self.old.standing.pattern)
             self.old.standing.repeats letter text.now self.old.prepared) }
     {
+        // It looks at no further letter.
         if self.prepared.state != State::Live {
             return Ok(None);
         }
@@ -210,8 +215,10 @@ impl<F: Finds, A: Allocator + Copy> Subscription<F, A> {
             self.prepared.offset = offset;
             return Ok(None);
         }
+        // Room in its own list for the letters of the draft, so that `commit` takes no memory.
         self.letters.reserve(self.prepared.letters.len() + 1)?;
         self.prepared.letters.push(letter)?;
+        // The next text begins behind the match.
         self.prepared.offset = 0;
         if !self.repeats {
             self.prepared.state = State::Done;
@@ -219,7 +226,7 @@ impl<F: Finds, A: Allocator + Copy> Subscription<F, A> {
         Ok(Some(Hit::Matched(letter)))
     }
 
-    /// Exchanges the two drafts: what is prepared becomes planned, and what is planned prepared.
+    /// Exchanges the two drafts: what it will be after the letters that are being prepared, and what after those of the plan.
     pub fn exchange(&mut self)
         ensures same { self.new.standing ≡ self.old.standing }
         ensures prepared { self.new.prepared ≡ self.old.planned }
@@ -228,7 +235,7 @@ impl<F: Finds, A: Allocator + Copy> Subscription<F, A> {
         std::mem::swap(&mut self.prepared, &mut self.planned);
     }
 
-    /// Hears what was prepared; what was planned is forgotten.
+    /// Hears what was prepared: it becomes what that draft says; what was planned is forgotten.
     pub fn commit(&mut self)
         ensures standing { self.new.standing
             ≡ record self.old.standing { reading = self.old.prepared } }

@@ -1,4 +1,5 @@
-//! All subscriptions of one directory.
+//! All subscriptions of one directory. Each has two drafts of what it will be: after the letters that are being prepared, and after those of a
+//! plan that waits to be committed.
 ghost use Rattle.std.specs.Prelude.{◌≡◌, ◌<◌, ◌≤◌, IfOk, OnOk, length, map};
 ghost use Rattle.std.specs.List.{filter_map, list_any};
 ghost use Rattle.event_directory.specs.SubscriberList.{is_live};
@@ -44,7 +45,8 @@ pub fn any_listens<F: Finds, A: Allocator + Copy>(subscriptions: &[Subscription<
         .any(|subscription| subscription.listens())
 }
 
-/// Prepares `letter`, the last one of `text`, and returns the hits that it will give, in the order of the subscriptions.
+/// Prepares `letter`, the last one of `text`: it is worked out what each subscription will have heard. Returns the hits (matches) that it will
+/// give, in the order of the subscriptions.
 pub fn prepare_all<F: Finds, A: Allocator + Copy>(
     alloc: A,
     subscriptions: &mut [Subscription<F, A>],
@@ -87,7 +89,7 @@ fn exchange_all<F: Finds, A: Allocator + Copy>(subscriptions: &mut [Subscription
     }
 }
 
-/// What was prepared becomes the plan, and nothing is prepared.
+/// What was prepared becomes the plan, and nothing is prepared: the drafts are exchanged, and that of the preparation begins anew.
 pub fn plan_all<F: Finds, A: Allocator + Copy>(subscriptions: &mut [Subscription<F, A>])
     ensures same { map standing_of_stored subscriptions.new
         ≡ map standing_of_stored subscriptions.old }
@@ -100,7 +102,7 @@ pub fn plan_all<F: Finds, A: Allocator + Copy>(subscriptions: &mut [Subscription
     begin_all(subscriptions);
 }
 
-/// Hears what was planned.
+/// Hears what was planned: the drafts are exchanged, so that the plan stands as what is prepared, and that is heard.
 pub fn hear_planned_all<F: Finds, A: Allocator + Copy>(subscriptions: &mut [Subscription<F, A>])
     ensures standing { map standing_of_stored subscriptions.new
         ≡ map planned_standing subscriptions.old }
@@ -111,7 +113,7 @@ pub fn hear_planned_all<F: Finds, A: Allocator + Copy>(subscriptions: &mut [Subs
     commit_all(subscriptions);
 }
 
-/// Hears what was prepared; what was planned is forgotten.
+/// Hears what was prepared: each subscription becomes what its draft says; what was planned is forgotten.
 pub fn commit_all<F: Finds, A: Allocator + Copy>(subscriptions: &mut [Subscription<F, A>])
     ensures standing { map standing_of_stored subscriptions.new
         ≡ map prepared_standing subscriptions.old }

@@ -1,4 +1,4 @@
-//! The end of a ring that takes inputs out.
+//! The end of a ring at which the tree takes out what an actor submitted.
 ghost use Rattle.std.specs.Prelude.{◌≡◌, ◌≢◌, ◌<◌, [], ◌∷◌, ◌++◌, length, true, false, IsTrue, IsFalse, IsSome, IfSome, IfNone, Some, None};
 ghost use mathlib.Core.List.{IsPrefix};
 ghost use Rattle.rtrb.specs.Ring.{received, known_items};
@@ -48,6 +48,7 @@ impl<C: Channels> Drain<C> {
         Drain {
             actor,
             consumer,
+            // It names the run in proofs, and has no bytes.
             channels: PhantomData,
         }
     }
@@ -79,8 +80,8 @@ impl<C: Channels> Drain<C> {
         }
     }
 
-    /// Takes out the oldest submission as `take_next` does, and puts it straight into `held`, so that it is moved only once. Returns whether
-    /// the ring had one; where it had none, `held` is as it was.
+    /// Takes out the oldest submission as `take_next` does, and puts it into `held`, the place where the caller keeps the input of its next
+    /// step. Returns whether the ring had one; where it had none, `held` is as it was.
     pub fn take_into(&mut self, held: &mut Option<Input<Global>>) -> bool
         ensures actor { self.new.actor ≡ self.old.actor }
         ensures held { IsTrue result → IsSome held.new }
@@ -118,7 +119,9 @@ impl<C: Channels> Drain<C> {
         ensures none { IfNone result (finished.old.submitted ≡ None) }
         ensures told { IfSome result (λ drained. IsSome finished.old.submitted) }
     {
+        // The ended seat's side of the ring: it tells how many submissions went in.
         let ring = finished.ring.as_mut()?;
+        // How many of those were not taken out yet.
         Some(self.consumer.slots_after(ring) == 0)
     }
 }

@@ -41,6 +41,7 @@ impl<C: Channels> Finished<C> {
         Finished {
             actor,
             ring,
+            // It names the run in proofs, and has no bytes.
             channels: PhantomData,
         }
     }

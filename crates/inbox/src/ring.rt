@@ -169,6 +169,7 @@ impl<C: Channels> Seat<C> {
         if self.producer.is_full() {
             return Err((act, Full));
         }
+        // `is_full` said that there is a free place.
         self.producer.push_reserved(Submission { at, act });
         self.count += 1;
         Ok(Ticket {
@@ -202,6 +203,7 @@ impl<C: Channels> Seat<C> {
             producer,
             channels: _,
         } = self;
+        // The ring's own end tells all that was submitted, unless the drain was dropped before.
         Finished::over(actor, producer.finish())
     }
 }

@@ -1,4 +1,4 @@
-//! The thread that accepts connections.
+//! The thread that accepts connections, and gives each one of eleven seats, and a mailbox, where texts wait to be written to it.
 use crate::conversing::{converse_at, read_last, write_last};
 use crate::mailbox::Mailbox;
 use crate::server::{Answers, Server};
@@ -18,11 +18,13 @@ pub fn serve<W: Answers + Sync, R: Threads + Wait + Clock + Sync>(rt: &R, server
             // Without both threads, nobody gets the last seat.
             server.last_seat_reader.end(rt);
         }
+        // This takes as long as the server lives.
         accept_all(scope, rt, server);
     });
 }
 
-// Starts the two threads of the last seat. Returns whether both run.
+// Starts the two threads of the last seat, one that reads its connection and one that writes to it. They run from the start, so that a connection
+// can come even where the system has no thread for it. Returns whether both run.
 fn start_last<'s, E, W: Answers + Sync, R: Threads + Wait + Clock + Sync>(
     scope: &Scope<'s, E>,
     rt: &'s R,
@@ -82,13 +84,15 @@ fn seat_one<'s, E, W: Answers + Sync, R: Threads + Wait + Clock + Sync>(
     if is_seated(scope, rt, server, &mailbox) {
         return;
     }
+    // Ends a connection that has been silent for long, if there is one, and waits a little for its seat.
     server.make_way(rt);
     if !is_seated(scope, rt, server, &mailbox) {
         let _ = mailbox.stream().write_all(b"busy\n");
     }
 }
 
-// Gives a connection a seat and a thread that reads it; where one of them can't be had, the last seat. Returns whether it has a seat.
+// Gives a connection a seat and a thread that reads it; where one of them can't be had, the last seat, whose threads run already. Returns whether
+// it has a seat.
 fn is_seated<'s, E, W: Answers + Sync, R: Threads + Wait + Clock + Sync>(
     scope: &Scope<'s, E>,
     rt: &'s R,
@@ -99,6 +103,7 @@ fn is_seated<'s, E, W: Answers + Sync, R: Threads + Wait + Clock + Sync>(
         if start_reader(scope, rt, server, seat) {
             return true;
         }
+        // There is no thread for it, so the seat is given back.
         server.free_seat(rt, seat);
     }
     server.take_last_seat(rt, mailbox)

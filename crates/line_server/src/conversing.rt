@@ -1,4 +1,4 @@
-//! A connection from its first line to its end: one thread reads it and answers, and one writes what is posted.
+//! A connection from its first line to its end: one thread reads it and answers, and one writes what is posted to its mailbox, where texts wait.
 use crate::accepting::STACK_SIZE;
 use crate::line_buffer::{LineBuffer, LineStatus};
 use crate::mailbox::Mailbox;
@@ -32,6 +32,7 @@ pub fn converse_at<W: Answers + Sync, R: Threads + Wait + Clock + Sync>(
         return;
     }
     server.free_seat(rt, seat);
+    // The threads of the last seat run already.
     if !server.take_last_seat(rt, &mailbox) {
         let _ = mailbox.stream().write_all(b"busy\n");
     }
@@ -55,11 +56,13 @@ fn is_conversed<W: Answers + Sync, R: Threads + Wait + Clock + Sync>(
         let is_written = start_writer(scope, rt, server.alloc, mailbox);
         if is_written {
             read_all(rt, server, seat, mailbox);
+            // Nothing more is posted, so the other thread ends once all is written. The scope waits for it.
             mailbox.close(rt);
         }
         is_written
     });
     if is_written {
+        // All is written: the connection is shut.
         mailbox.end(rt);
     }
     is_written
@@ -78,17 +81,20 @@ fn start_writer<'s, E, R: Threads + Wait + Sync>(
         .is_ok()
 }
 
-/// Reads the connections of the last seat, one after the other, until the server ends.
+/// Reads the connections of the last seat, one after the other, until the server ends. `last_seat_reader` is where this thread gets them, and
+/// `last_seat_writer` where the seat's other thread gets them.
 pub fn read_last<W: Answers, R: Wait + Clock>(rt: &R, server: &Server<W>) {
     for _ in rt.forever() {
         let Some(mailbox) = server.last_seat_reader.take(rt) else {
             break;
         };
         converse_last(rt, server, &mailbox);
+        // This handle is gone before the seat is free, so that the connection is closed with its seat.
         drop(mailbox);
         server.last_seat_reader.finish(rt);
         leave_seat(rt, server, LAST_SEAT);
     }
+    // So the thread that writes ends too.
     server.last_seat_writer.end(rt);
 }
 
@@ -101,6 +107,7 @@ fn converse_last<W: Answers, R: Wait + Clock>(rt: &R, server: &Server<W>, mailbo
     if server.last_seat_writer.give(rt, own).is_ok() {
         read_all(rt, server, LAST_SEAT, mailbox);
         mailbox.close(rt);
+        // All that was posted is written.
         server.last_seat_writer.await_done(rt);
     }
     mailbox.end(rt);
@@ -113,6 +120,7 @@ pub fn write_last<W: Answers, R: Wait>(rt: &R, server: &Server<W>) {
             break;
         };
         write_all(rt, server.alloc, &mailbox);
+        // This handle is gone before the reading thread goes on, so that the connection is closed with its seat.
         drop(mailbox);
         server.last_seat_writer.finish(rt);
     }
@@ -122,6 +130,7 @@ pub fn write_last<W: Answers, R: Wait>(rt: &R, server: &Server<W>) {
 fn write_all<R: Wait>(rt: &R, alloc: Global, mailbox: &Mailbox) {
     let mut text = Vec::new(alloc);
     for _ in rt.forever() {
+        // Moves all that was posted into `text`.
         if !mailbox.wait_for_text(rt, &mut text) {
             break;
         }
@@ -133,7 +142,7 @@ fn write_all<R: Wait>(rt: &R, alloc: Global, mailbox: &Mailbox) {
     }
 }
 
-// Reads the connection to its end, and answers each whole line.
+// Reads the connection to its end, and answers each whole line. `buffer` has what was read and is no whole line yet.
 fn read_all<W: Answers, R: Wait + Clock>(
     rt: &R,
     server: &Server<W>,
@@ -150,6 +159,7 @@ fn read_all<W: Answers, R: Wait + Clock>(
             break;
         }
     }
+    // Its seat will be free soon, for which a new connection may wait.
     server.note(rt, seat, SeatUse::Leaving);
 }
 
@@ -164,7 +174,8 @@ fn read_some(mut stream: &UnixStream, buffer: &mut LineBuffer<Global>) -> bool {
     }
 }
 
-// Answers each whole line that has come. The connection counts as needed until all are answered, and as silent from then on.
+// Answers each whole line that has come. The connection counts as needed until all are answered, and as silent from then on: a silent one may lose
+// its seat to a new one.
 fn answer_lines<W: Answers, R: Wait + Clock>(
     rt: &R,
     server: &Server<W>,
@@ -173,6 +184,7 @@ fn answer_lines<W: Answers, R: Wait + Clock>(
     line: &mut Vec<u8>,
     mailbox: &Mailbox,
 ) -> Next {
+    // Whether a whole line was found.
     let mut has_asked = false;
     let mut next = Next::GoOn;
     for _ in rt.forever() {
@@ -197,6 +209,7 @@ fn answer_lines<W: Answers, R: Wait + Clock>(
         }
     }
     if has_asked {
+        // Waits until all of them are answered.
         server.answers.settle(rt, seat);
         server.note(rt, seat, SeatUse::SilentSince(millis_of(rt)));
     }

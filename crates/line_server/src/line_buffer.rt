@@ -63,6 +63,7 @@ impl<A: Allocator + Copy> LineBuffer<A> {
     {
         let bytes = self.bytes.as_slice();
         let end = first_newline(bytes);
+        // With its newline the line would be longer than the limit.
         if end >= LINE_LIMIT {
             return Ok(LineStatus::TooLong);
         }
@@ -85,7 +86,7 @@ fn first_newline(bytes: &[u8]) -> usize
     memchr(b'\n', bytes).unwrap_or(bytes.len())
 }
 
-// Drops the first `count` bytes. The others keep their order.
+// Drops the first `count` bytes: moves them behind the others, and cuts them off. The others keep their order.
 fn drop_front<A: Allocator>(bytes: &mut Vec<u8, A>, count: usize)
     requires { count ≤ length bytes.old.items }
     ensures { bytes.new.items ≡ drop count bytes.old.items }

@@ -1,5 +1,4 @@
-//! The mailbox of one connection: texts are posted there, and the thread that writes them waits there. It ends a connection for which too
-//! much waits.
+//! The mailbox of one connection: texts are posted there, and the thread that writes them waits there. Where too much waits, it ends the connection.
 use crate::outbox::{Outbox, PostFault};
 use std::alloc::Global;
 use std::net::Shutdown;
@@ -21,7 +20,9 @@ impl Mailbox {
     pub fn new(alloc: Global, stream: UnixStream) -> Mailbox {
         Mailbox {
             stream,
+            // The texts that wait to be written.
             outbox: Mutex::new(Outbox::new(alloc)),
+            // Notified when a text is posted, and when nothing more will be.
             changed: Condvar::new(),
         }
     }
@@ -39,7 +40,8 @@ impl Mailbox {
         posted
     }
 
-    /// Posts a text like `post`, but doesn't wake the thread that writes: call `wake` once several texts are posted.
+    /// Posts a text like `post`, but doesn't wake the thread that writes: call `wake` once several texts are posted. Where a text would be missing
+    /// then, the connection is ended.
     pub fn add<R: Wait>(&self, rt: &R, text: &[u8]) -> Result<(), PostFault> {
         let posted = self.outbox.lock(rt).post(text);
         match posted {
@@ -72,6 +74,7 @@ impl Mailbox {
         let mut outbox = self.changed.wait_while(rt, self.outbox.lock(rt), |outbox| {
             outbox.is_open() && outbox.is_empty()
         });
+        // What was in `text` is gone.
         outbox.take_all(text);
         !text.is_empty()
     }

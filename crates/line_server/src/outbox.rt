@@ -41,6 +41,7 @@ impl From<AllocError> for PostFault {
 
     ghost from_gives = { λ _ fault. fault ≡ NoMemory };
 
+    // Where memory for a text is refused, the text is not posted for that reason.
     fn from(_: AllocError) -> PostFault {
         PostFault::NoMemory
     }
@@ -87,6 +88,7 @@ impl<A: Allocator + Copy> Outbox<A> {
         if !self.is_open {
             return Err(PostFault::Closed);
         }
+        // What waits is never longer than the limit.
         if text.len() > OUTBOX_LIMIT - self.bytes.len() {
             return Err(PostFault::Full);
         }
@@ -100,6 +102,7 @@ impl<A: Allocator + Copy> Outbox<A> {
         ensures outbox { self.new ≡ record self.old { unsent = [] } }
     {
         text.clear();
+        // What waited is in `text` now, and the outbox goes on with the memory of `text`.
         std::mem::swap(&mut self.bytes, text);
     }
 

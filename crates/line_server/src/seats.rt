@@ -1,4 +1,4 @@
-//! Who is connected: a connection has one of 11 seats, and is known by the number of its seat, from 0.
+//! Who is connected: a connection has one of 11 seats, known by its number, from 0. A sitting is a connection on its seat, with its mailbox.
 use crate::mailbox::Mailbox;
 use crate::silence::{SeatUse, first_silent};
 use std::alloc::{AllocError, Global};
@@ -44,7 +44,9 @@ impl Seats {
         }
         Ok(Seats {
             sittings,
+            // How often a seat became free.
             freed: 0,
+            // Whether the server is ending, so that no connection is taken any more.
             is_ending: false,
         })
     }
@@ -54,6 +56,7 @@ impl Seats {
     pub fn take(&mut self, mailbox: Arc<Mailbox>, now: u64) -> Option<usize> {
         let sittings = self.sittings.as_slice();
         let seat = sittings.iter().position(|taken| taken.is_none())?;
+        // The last seat is given by `take_last` alone.
         if seat >= LAST_SEAT || !self.take_at(seat, mailbox, now) {
             return None;
         }
@@ -73,6 +76,7 @@ impl Seats {
         }
         match self.sittings.get_mut(seat) {
             Some(place) if place.is_none() => {
+                // It has said nothing yet.
                 let doing = SeatUse::SilentSince(now);
                 *place = Some(Sitting { mailbox, doing });
                 true
@@ -91,6 +95,7 @@ impl Seats {
     /// Ends the first connection that isn't kept and has been silent for two seconds or more at the moment `now`, in milliseconds: its seat
     /// will be free.
     pub fn end_silent<R: Wait>(&mut self, rt: &R, kept: &[bool; SEAT_COUNT], now: u64) {
+        // What the connection of each seat does.
         let mut uses = [SeatUse::Needed; SEAT_COUNT];
         let sittings = self.sittings.as_slice();
         for ((place, sitting), is_kept) in uses.iter_mut().zip(sittings).zip(kept) {
@@ -100,6 +105,7 @@ impl Seats {
             return;
         };
         if let Some(Some(sitting)) = self.sittings.get_mut(seat) {
+            // Its own thread frees the seat, once it sees the end.
             sitting.doing = SeatUse::Leaving;
             sitting.mailbox.end(rt);
         }
@@ -120,6 +126,7 @@ impl Seats {
         if let Some(place) = self.sittings.get_mut(seat) {
             *place = None;
         }
+        // Whoever waits for a seat sees by the count that one became free.
         self.freed = self.freed.wrapping_add(1);
     }
 

@@ -1,4 +1,4 @@
-//! A server of lines: who is connected, and who answers.
+//! A server of lines: who is connected, and who answers. A connection has one of eleven seats, and a mailbox, where texts wait to be written to it.
 use crate::mailbox::Mailbox;
 use crate::seats::{LAST_SEAT, SEAT_COUNT, Seats};
 use crate::silence::SeatUse;
@@ -92,6 +92,7 @@ impl<W: Answers> Server<W> {
     {
         // As a stream, so that `end` can shut it down: then `accept` returns.
         let waker = UnixStream::from(OwnedFd::from(listener.try_clone()?));
+        // In reserve, for a connection for which the system has no descriptor left.
         let spare = listener.try_clone()?;
         Ok(Server {
             alloc,
@@ -99,7 +100,9 @@ impl<W: Answers> Server<W> {
             waker,
             spare: Mutex::new(Some(spare)),
             seats: Mutex::new(seats),
+            // Notified when a seat becomes free, and when the server is ending.
             changed: Condvar::new(),
+            // Where the two threads of the last seat get their work.
             last_seat_reader: WorkDesk::new(),
             last_seat_writer: WorkDesk::new(),
             answers,
@@ -116,7 +119,8 @@ impl<W: Answers> Server<W> {
         self.seats.lock(rt).mailbox(seat)
     }
 
-    // Gives a connection a seat, but not the last one; None where none of these is free.
+    // Gives a connection a seat, but not the last one; None where none of these is free, or memory for a handle is refused. It counts as silent
+    // from now on.
     pub(crate) fn take_seat<R: Wait + Clock>(
         &self,
         rt: &R,
@@ -152,6 +156,7 @@ impl<W: Answers> Server<W> {
 
     // Ends a connection that has been silent for two seconds, if there is one.
     fn end_silent<R: Wait + Clock>(&self, rt: &R) {
+        // By seats: whether the connection is kept though it says nothing, because something may still be told to it.
         let mut kept = [true; SEAT_COUNT];
         for (seat, is_kept) in kept.iter_mut().enumerate() {
             *is_kept = self.answers.keeps(rt, seat);
@@ -174,7 +179,7 @@ impl<W: Answers> Server<W> {
         self.seats.lock(rt).note(seat, doing);
     }
 
-    // The seat is free again.
+    // The seat is free again: those that wait for one look.
     pub(crate) fn free_seat<R: Wait>(&self, rt: &R, seat: usize) {
         self.seats.lock(rt).free(seat);
         self.changed.notify_all();
@@ -227,7 +232,9 @@ impl<W: Answers> Server<W> {
     pub fn end<R: Wait>(&self, rt: &R) {
         self.seats.lock(rt).end_all(rt);
         self.changed.notify_all();
+        // The threads of the last seat end.
         self.last_seat_reader.end(rt);
+        // This shuts the listener down, so that the call which waits for connections returns.
         let _ = self.waker.shutdown(Shutdown::Both);
     }
 }

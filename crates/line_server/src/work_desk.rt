@@ -1,4 +1,4 @@
-//! Where a thread gets one thing after another to work on.
+//! Where a thread gets one thing after another to work on. Other threads give them.
 use std::sync::{Condvar, Mutex, Wait};
 
 // What was given and not taken yet, whether the thread works on what it took, and whether the desk was ended.
@@ -17,14 +17,18 @@ pub struct WorkDesk<T> {
 }
 
 impl<T: Drop> WorkDesk<T> {
-    /// Nothing was given.
+    /// A desk at which nothing was given.
     pub fn new() -> WorkDesk<T> {
         WorkDesk {
             work: Mutex::new(Work {
+                // What was given and not taken yet.
                 given: None,
+                // Whether the thread works on what it took.
                 is_under_way: false,
+                // Whether the desk was ended.
                 is_over: false,
             }),
+            // Notified when one of these changes.
             changed: Condvar::new(),
         }
     }
@@ -45,6 +49,7 @@ impl<T: Drop> WorkDesk<T> {
         let mut work = self.changed.wait_while(rt, self.work.lock(rt), |work| {
             !work.is_over && work.given.is_none()
         });
+        // The wait is over: where nothing was given, the desk was ended.
         let thing = work.given.take()?;
         work.is_under_way = true;
         Some(thing)
@@ -53,6 +58,7 @@ impl<T: Drop> WorkDesk<T> {
     /// The thing that was taken is done.
     pub fn finish<R: Wait>(&self, rt: &R) {
         self.work.lock(rt).is_under_way = false;
+        // `await_done` goes on, and the next thing may be given.
         self.changed.notify_all();
     }
 
@@ -67,6 +73,7 @@ impl<T: Drop> WorkDesk<T> {
     pub fn end<R: Wait>(&self, rt: &R) {
         let mut work = self.work.lock(rt);
         work.is_over = true;
+        // The thread that waits for a thing goes on, and ends.
         self.changed.notify_all();
     }
 }

@@ -28,6 +28,7 @@ impl Beginning {
         ensures steps { IfOk result (λ b. b.run.steps ≡ []) }
     {
         Ok(Beginning {
+            // What the tree stores now: contracts tell the run from there on.
             opening: tree.image()?,
             run: Run::new(alloc)?,
             effect: new_effect(alloc)?,

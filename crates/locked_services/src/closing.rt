@@ -55,7 +55,7 @@ fn are_known<C: Channels>(finishes: &Vec<Finished<C>>, seats: usize) -> bool
     true
 }
 
-// Whether each of so many seats has ended, once, and no other one has: what is left of a seat at its end is its finish.
+// Whether each of so many seats has ended, once, and no other one has. What is left of a seat at its end is its finish.
 fn has_one_each<C: Channels>(finishes: &Vec<Finished<C>>, seats: usize) -> bool
     ensures known { result ≡ true → AreKnown seats finishes.now.items }
     ensures one { result ≡ true → (actor : ℕ) → actor < seats
@@ -147,10 +147,12 @@ pub fn input_fault<C: Channels>(
         return Some(CloseFault::Missing);
     }
     match are_drained(drains, finishes) {
+        // A ring told nothing of its seat's end.
         None => return Some(CloseFault::Missing),
         Some(false) => return Some(CloseFault::Left),
         Some(true) => {}
     }
+    // An input that was taken from a ring, and whose step was not made.
     if is_held {
         return Some(CloseFault::Left);
     }

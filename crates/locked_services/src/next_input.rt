@@ -1,4 +1,4 @@
-//! Which input comes next.
+//! Which input comes next. A drain is the tree's end of an actor's ring, into which the actor submits.
 ghost use Rattle.std.specs.Prelude.{◌≡◌, None, IsSome, IsTrue, IsFalse, option_to_list};
 ghost use Rattle.locked_services.specs.Submissions.{AreNumbered, Give, NoneSeen};
 

@@ -142,6 +142,7 @@ impl<C: Channels + Lanes, D: Board<C>> Room<C, D> {
     {
         let stop = self.running.step_one();
         if stop == Stop::Done {
+            // The board shows the state before this step.
             self.is_shown = false;
             keep::<Brand, C, R>(rt, &mut self.history, &self.running);
         }
@@ -265,6 +266,7 @@ impl<C: Channels + Lanes, D: Board<C>> Room<C, D> {
     {
         let driven = self.running.step_many(most);
         if driven.steps > 0 {
+            // The board shows the state before these steps.
             self.is_shown = false;
             keep::<Brand, C, R>(rt, &mut self.history, &self.running);
         }

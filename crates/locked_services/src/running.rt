@@ -113,7 +113,7 @@ impl<C: Channels + Lanes> RunningTree<C> {
         }
     }
 
-    // Takes an input from the rings, if none is held. Returns whether one is held now.
+    // Takes an input from the rings into `held`, the input of the next step, if none is there. Returns whether one is there now.
     fn fetch(&mut self) -> bool
         ensures opening { self.new.opening ≡ self.old.opening }
         ensures tree { self.new.tree ≡ self.old.tree }
@@ -132,7 +132,7 @@ impl<C: Channels + Lanes> RunningTree<C> {
         take_next(&mut self.drains, &mut self.held)
     }
 
-    // The least lane that may have no room for the orders of a step; None where each has room.
+    // The least lane, a ring of orders to a backend, that may have no room for the orders of a step; None where each has room.
     fn blocked(&mut self) -> Option<usize>
         ensures opening { self.new.opening ≡ self.old.opening }
         ensures tree { self.new.tree ≡ self.old.tree }
@@ -167,6 +167,7 @@ impl<C: Channels + Lanes> RunningTree<C> {
         // Room for the step is made first: nothing may be refused once the tree has made it.
         self.run.reserve(kept.actor())?;
         let effect = &mut *self.effect;
+        // The tree makes the step, and fills `effect` with all that it gave.
         self.tree.apply_in_place(input, effect)?;
         self.held = None;
         // For the proof: a list of orders has no more than `ORDER_LIMIT`, for which each lane has room.
@@ -194,6 +195,7 @@ impl<C: Channels + Lanes> RunningTree<C> {
         let Some(input) = &self.held else {
             unreachable!()
         };
+        // A copy for the record, since the tree takes the input itself.
         let plain = input.plain(self.alloc)?;
         self.make_kept(plain)
     }
@@ -217,6 +219,7 @@ impl<C: Channels + Lanes> RunningTree<C> {
         let Some(input) = &self.held else {
             unreachable!()
         };
+        // Ticks and most reports are kept in a few words, all other inputs as a plain copy.
         match told_of(input) {
             Some(told) => self.make_kept(told),
             None => self.make_any(),
@@ -241,6 +244,7 @@ impl<C: Channels + Lanes> RunningTree<C> {
         if self.run.len() >= RUN_LIMIT {
             return Stop::RunFull;
         }
+        // Asked before an input is taken, so that no input is left half done.
         if let Some(lane) = self.blocked() {
             return Stop::Blocked(lane);
         }
@@ -299,6 +303,7 @@ impl<C: Channels + Lanes> RunningTree<C> {
             rows ≡ shot_of (end_of m self.now.steps)) }
     {
         let tree = &*self.tree;
+        // Rows are published with the number of the step that they show.
         let at = tree.steps();
         let mut rows = Vec::new(self.alloc);
         tree.fill_rows(&mut rows)?;

@@ -1,4 +1,5 @@
-//! Whether all orders of a run were asked; and the backends, taken from their desks.
+//! Whether all orders of a run were asked; and the backends, taken from their desks. A lane is a ring of orders to one backend, which starts and
+//! signals programs; the backend is asked them at the lane's desk.
 ghost use Rattle.std.specs.Prelude.{◌≡◌, ◌≤◌, [], length, map, Some, true, false, vec_capacity};
 ghost use Rattle.locked_services.specs.Closing.{AreSameDesks, AreSameLanes, AreServed, IsServed, IsOrderLeft};
 

@@ -1,4 +1,4 @@
-//! The ends of a new board: its writer, and a reader for each seat.
+//! The ends of a new board, on which the services' rows are published: its writer, and a reader for each seat.
 ghost use Rattle.std.specs.Prelude.{◌≡◌, ◌≤◌, ◌⊎◌, ◌∷◌, [], IfOk, IfErr, length};
 ghost use Rattle.tree_core.specs.Machine.{Machine};
 ghost use Rattle.tree_core.specs.StandsFor.{StandsFor};
@@ -18,6 +18,7 @@ use tree_core::Tree;
 fn first_rows(alloc: Global, tree: &Tree<Global>) -> Result<StandingRows<Global>, NoMemory>
     ensures { IfOk result (λ rows. (m : Machine) → StandsFor tree.now m → rows ≡ shot_of m) }
 {
+    // Rows are published with the number of the step that they show.
     let at = tree.steps();
     let mut rows = Vec::new(alloc);
     tree.fill_rows(&mut rows)?;

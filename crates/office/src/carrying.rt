@@ -1,4 +1,4 @@
-//! How a lane is served.
+//! How a lane is served: at its desk the lane's backend, which starts and signals programs, is asked the orders of the lane's ring.
 ghost use Rattle.std.specs.Prelude.{◌≡◌, ◌≤◌, [], None, IsSome};
 ghost use Rattle.order_lanes.specs.declared.desk.Carried.TheVariants.{Asked, Idle, Refused};
 
@@ -14,6 +14,7 @@ pub fn carry_many<B: Backend, L: Lanes>(desk: &mut Desk<B, L>, most: u64) -> Car
     ensures idle { result ≡ Idle → (desk.new.held ≡ None) × (desk.new.seen ≡ []) }
     ensures refused { (fault : _) → result ≡ Refused fault → IsSome desk.new.held }
 {
+    // All turns but the last, whose result is returned in any case.
     for _ in 1..most {
         let carried = desk.carry_one();
         if carried != Carried::Asked {

@@ -1,4 +1,4 @@
-//! How desks are taken out of their locks, and put back.
+//! How desks are taken out of their locks, and put back. At a lane's desk its backend is asked orders.
 ghost use Rattle.std.specs.Prelude.{◌≡◌, ◌≤◌, [], length, vec_capacity};
 ghost use Rattle.office.specs.Changed.{ComeOf};
 

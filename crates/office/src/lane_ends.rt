@@ -1,4 +1,4 @@
-//! The ends of new lanes: the tree's, and the desks of their backends.
+//! The ends of new lanes: the tree's, which sends orders, and the desks of the backends, which start and signal programs.
 ghost use Rattle.std.specs.Prelude.{◌≡◌, ◌≤◌, [], ℕ, length, vec_capacity, IfOk, Some, slice_get};
 ghost use Rattle.order_lanes.specs.Lane.{sent_in};
 ghost use Rattle.office.specs.Opening.{AreLaneRings, AreAsked};
@@ -43,6 +43,7 @@ impl<B: Backend, L: Lanes> LaneEnds<B, L> {
         let mut ends = self;
         let mut backends = backends;
         for ring in rings {
+            // The lists are of the same length: the next ring is the next backend's.
             let backend = backends.remove(0);
             let (lane, desk) = ring.ends::<B, L>(backend);
             ends.lanes.push_reserved(lane);

@@ -90,6 +90,7 @@ fn new_rings(alloc: Global, actors: usize) -> Result<Vec<Ring>, NoMemory>
     ensures count { IfOk result (λ rings. length rings.items ≡ actors) }
     ensures ordered { IfOk result (λ rings. AreOrdered rings.items) }
 {
+    // There are at most 16 actors.
     let rings = open_rings(alloc, actors as u8)?;
     Ok(rings)
 }
@@ -128,6 +129,7 @@ impl<B: Drop> NewOffice<B> {
             tree,
             rings,
             lane_rings,
+            // The board has no rows before the office is opened.
             board: NewBoard::new(),
             history,
             backends,

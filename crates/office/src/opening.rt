@@ -71,6 +71,7 @@ fn make_parts<C: Channels + Lanes, R: Wait + Drop, B: Backend>(
         × (lanes ≤ vec_capacity p.lanes.desks)) }
     ensures fault { IfErr result (λ e. (e ≡ fault.NoMemory) ⊎ (e ≡ fault.Board)) }
 {
+    // The board has a reader for each seat, and a seat has a ring.
     let count = rings.len();
     let Ok(beginning) = Beginning::of(alloc, tree) else {
         return Err(OpenFault::NoMemory);
@@ -122,6 +123,7 @@ fn new_room<C: Channels + Lanes, D: Board<C>>(
     ensures shown { result.is_shown ≡ true }
 {
     let running = RunningTree::begin(alloc, beginning, tree, drains, lanes);
+    // The history of the inputs that are done is for proofs alone.
     Room::begin(running, board, WholeHistory::over(history))
 }
 
@@ -159,9 +161,11 @@ impl<C: Channels + Lanes, D: Board<C>, B: Backend> Parts<C, D, B> {
             lanes,
             spare,
         } = self;
+        // The actors submit at the seats, and the tree takes their inputs out of the drains.
         let SeatEnds { seats, drains } = ends;
         let LaneEnds { lanes, desks } = lanes.fill(rings, backends);
         let mut room = new_room(alloc, beginning, tree, drains, lanes, board, history);
+        // For proofs alone: that no input is done yet.
         let known = room.history();
         Opened {
             office: Office::over(room, desks, spare),

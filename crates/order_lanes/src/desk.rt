@@ -1,4 +1,4 @@
-//! The desk of a lane, where its backend is asked the orders from the lane's ring.
+//! The desk of a lane, where its backend, which starts and signals programs, is asked the orders from the lane's ring.
 ghost use Rattle.std.specs.Prelude.{◌≡◌, ◌↔◌, [], ◌∷◌, ◌++◌, Some, None, IfSome, IfNone, IsTrue};
 ghost use Rattle.rtrb.specs.Ring.{received, known_items};
 ghost use Rattle.channel_names.specs.RingName.{consumer_ring};
@@ -89,7 +89,7 @@ impl<B: Backend, L: Lanes> Desk<B, L> {
         self.lane
     }
 
-    // The next order, which is held from now on; None where there is none.
+    // The next order: the one that is held, or else the oldest of the ring, which is held from now on; None where there is none.
     #[tactic(auto, using(crate::proofs::Turns::takes_next))]
     fn hold_next(&mut self) -> Option<Order>
         ensures rest { (self.new.lane ≡ self.old.lane) × (self.new.given ≡ self.old.given) }
@@ -151,6 +151,7 @@ impl<B: Backend, L: Lanes> Desk<B, L> {
         ensures done { IsTrue result
             ↔ (self.old.asked ≡ L.asked_before self.old.lane ++ lane.old.sent) }
     {
+        // How many orders that were sent are still in the ring.
         let waiting = self.consumer.slots_beside(&mut lane.producer);
         if self.held.is_some() {
             return false;

@@ -1,4 +1,4 @@
-//! The tree's end of a lane.
+//! The tree's end of a lane. A lane is a ring of orders to one backend, which starts and signals programs.
 ghost use Rattle.std.specs.Prelude.{◌≡◌, ◌+◌, ◌<◌, [], ◌∷◌, ◌++◌};
 ghost use Rattle.rtrb.specs.Ring.{sent, known_free, producer_capacity};
 ghost use Rattle.channel_names.specs.RingName.{producer_ring};
@@ -45,6 +45,7 @@ impl<L: Lanes> Lane<L> {
         Lane {
             number,
             producer,
+            // It names the run in proofs, and has no bytes.
             lanes: PhantomData,
         }
     }

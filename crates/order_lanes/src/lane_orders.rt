@@ -1,4 +1,4 @@
-//! Which lane is an order's, and whether there is room for it.
+//! Which lane takes an order, and whether it has room. A lane is a ring of orders to one backend, which starts and signals programs.
 ghost use Rattle.std.specs.Prelude.{◌≡◌, ◌<◌, ◌+◌, ◌++◌, ◌∷◌, [], ℕ, length, IfSome, IfNone};
 ghost use Rattle.order_lanes.specs.LaneOrders.{sid_of, lane_of, orders_of_lane};
 ghost use Rattle.order_lanes.specs.Lane.{sent_in, HaveRoom, IsBlocked};

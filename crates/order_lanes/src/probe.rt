@@ -47,6 +47,7 @@ impl<R> Probe<R> {
         ensures { result ≡ record { asked = []; given = []; busy = busy } }
     {
         let mut waiting = reports;
+        // The next report is popped off the end of the list.
         waiting.reverse();
         Probe {
             rt,
@@ -66,6 +67,7 @@ impl<R: Wait + Drop> Probe<R> {
             (self.new ≡ record self.old { asked = self.old.asked ++ order.now ∷ [] }) }
         ensures same { OnErr result (self.new ≡ self.old) }
     {
+        // Room for `asked` comes first: then only the push into `log` can be refused, and neither list has the order.
         self.asked.reserve(1)?;
         self.log.lock(&self.rt).push(*order)?;
         self.asked.push_reserved(*order);

@@ -1,4 +1,4 @@
-//! What a report is about: the act that tells the tree of it, and the orders that it answers.
+//! What a report of a backend is about: the act that tells the tree of it, and the orders that it answers.
 ghost use Rattle.std.specs.Prelude.{◌≡◌, ◌↔◌, IsTrue};
 ghost use Rattle.std.specs.List.{list_any};
 ghost use Rattle.order_lanes.specs.Report.{act_of};

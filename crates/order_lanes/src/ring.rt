@@ -1,4 +1,4 @@
-//! New rings of lanes.
+//! New rings of lanes. A lane is a ring of orders to one backend, which starts and signals programs.
 ghost use Rattle.std.specs.Prelude.{◌≡◌, ◌≤◌, [], None, IfOk, length};
 ghost use Rattle.order_lanes.specs.Lane.{lane_room, AreNumbered};
 
@@ -43,6 +43,7 @@ impl LaneRing {
     fn open(alloc: Global, number: usize) -> Result<LaneRing, NoMemory>
         ensures { IfOk result (λ r. r.number ≡ number) }
     {
+        // The tree pushes orders at the one end, and the desk of the lane's backend pops them at the other.
         let (producer, consumer) = RingBuffer::new(alloc, LANE_ROOM)?;
         Ok(LaneRing {
             number,

@@ -1,4 +1,4 @@
-//! The tool `replay`, with buffers for what it reads and writes.
+//! The tool `replay`, with buffers: it reads a script, a tree's inputs line by line, and writes what the tree answers, or the story in words.
 ghost use Rattle.std.specs.Prelude.{◌≡◌, ◌⊎◌, IfOk, IfErr, OnOk};
 ghost use Rattle.s6_replay.specs.Replay.{IsWhole, Stops};
 ghost use Rattle.s6_replay.specs.Migration.{Migrates, MigrateStops};
@@ -151,6 +151,7 @@ pub fn dated_story<A: Allocator + Copy, R: Read + Drop, W: Write + Drop>(
     output: W,
 ) -> Result<(), ReplayFault> {
     let (mut reader, writer) = buffers(alloc, input, output)?;
+    // It writes a time of day in place of the seconds with which a line begins.
     let mut writer = Dated::new(writer, start);
     tell_whole(alloc, patterns, &mut reader, &mut writer)
 }

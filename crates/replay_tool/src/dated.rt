@@ -1,4 +1,4 @@
-//! A story with times of day in place of its seconds.
+//! A story, a script told in words, with times of day in place of the seconds with which its lines begin.
 use day_times::day_millisecond;
 use std::io::{Result, Write};
 
@@ -19,6 +19,7 @@ impl<W> Dated<W> {
         Dated {
             writer,
             start,
+            // The first line begins with its moment.
             moment: Some(0),
         }
     }
@@ -48,6 +49,7 @@ impl<W: Write> Write for Dated<W> {
     fn write(&mut self, bytes: &[u8]) -> Result<usize> {
         for byte in bytes {
             match self.moment {
+                // The moment of the line ends at the first space.
                 Some(moment) if *byte == b' ' => {
                     write_day(&mut self.writer, self.start.saturating_add(moment))?;
                     self.moment = None;
@@ -56,6 +58,7 @@ impl<W: Write> Write for Dated<W> {
                 // Behind its moment a line goes on as it is.
                 None => self.writer.write_all(&[*byte])?,
             }
+            // The next line begins with its moment.
             if *byte == b'\n' {
                 self.moment = Some(0);
             }
@@ -63,6 +66,7 @@ impl<W: Write> Write for Dated<W> {
         Ok(bytes.len())
     }
 
+    // Has the writer behind it write out what it still holds.
     fn flush(&mut self) -> Result<()> {
         self.writer.flush()
     }

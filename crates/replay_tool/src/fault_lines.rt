@@ -44,7 +44,7 @@ fn line_of(fault: &ReplayFault) -> io::Result<ArrayVec<u8, 64>>
     Ok(line)
 }
 
-// Writes the line of a fault, or as much of it as the writer takes.
+// Writes the line of a fault, or as much of it as the writer takes. The line always fits into its buffer.
 fn tell<W: Write>(fault: &ReplayFault, writer: &mut W)
     ensures { (n : ℕ) × Appends (W.contents writer.old) (W.contents writer.new)
         (take n (fault_line fault.now)) }

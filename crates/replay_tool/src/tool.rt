@@ -38,7 +38,7 @@ enum Asked {
     Unknown,
 }
 
-// Whether the command line has a word at this place; the program's name is at 0.
+// Whether the command line has a word at this place; the program's name is at 0. A word is read into an array, which takes no memory.
 fn has_word(env: &impl Env, place: usize) -> bool {
     let mut word = [0; LONGEST_WORD];
     // A word that is longer than the array is there too: its error is `TooLong`.
@@ -64,7 +64,7 @@ fn day_at(env: &impl Env, place: usize) -> Option<u64> {
     u64::try_from(instant.nanosecond / MILLISECOND).ok()
 }
 
-// What the command line asks for, where words follow `replay --story`.
+// What the command line asks for, where words follow `replay --story`. The program's name is at place 0, and so `--story` at 2.
 fn asked_of_story(env: &impl Env) -> Asked {
     // Behind `--story` only `--since TIME` may come.
     if !is_word(env, 3, b"--since") || has_word(env, 5) {
@@ -76,7 +76,7 @@ fn asked_of_story(env: &impl Env) -> Asked {
     }
 }
 
-// What the words behind `replay` ask for.
+// What the words behind `replay` ask for. The program's name is at place 0, and `replay` at 1, so the first of these words is at 2.
 fn asked_of_replay(env: &impl Env) -> Asked {
     if !has_word(env, 2) {
         Asked::Replay
@@ -101,7 +101,8 @@ fn asked_of_replay(env: &impl Env) -> Asked {
     }
 }
 
-// What the command line asks for: `replay`, with the words behind it, or `--help` or `--version` alone; `Unknown` for any other words.
+// What the command line asks for: `replay`, with the words behind it, or `--help` or `--version` alone; `Unknown` for any other words. The
+// program's name is at place 0.
 fn asked_tool(env: &impl Env) -> Asked {
     if is_word(env, 1, b"replay") {
         return asked_of_replay(env);

@@ -129,8 +129,9 @@ impl Model for NewHistory {
 }
 
 impl NewHistory {
-    /// A new history. `AllocError` where memory is refused.
+    /// A new history: a cell, to which all its passes belong, and the first of these. `AllocError` where memory is refused.
     pub fn new(alloc: Global) -> Result<NewHistory, AllocError> {
+        // The cell's number is 0 and stays so. The first pass knows all inputs, of which there are none.
         let (cell, pass) = Cell::ruled(alloc, [0])?;
         Ok(NewHistory { cell, pass })
     }
@@ -159,7 +160,7 @@ impl<C: Lanes> Model for KnownHistory<C> {
 }
 
 impl<C: Lanes> KnownHistory<C> {
-    // The known history of this pass, which tells in proofs what is known. Nothing else is stored.
+    // The known history of this pass, a token that tells in proofs what is known. Nothing else is stored.
     fn over(pass: Receipt) -> KnownHistory<C>
         requires cell { pass.table_id ≡ C.history }
         requires free { pass.me.1 ≡ [] }
@@ -167,11 +168,12 @@ impl<C: Lanes> KnownHistory<C> {
     {
         KnownHistory {
             pass,
+            // Names the run in the type, for proofs. Nothing is stored.
             of: PhantomData,
         }
     }
 
-    // Its pass.
+    // Its pass, which tells in proofs what is known. Nothing else was stored.
     fn into_pass(self) -> Receipt
         ensures cell { result.table_id ≡ C.history }
         ensures free { result.me.1 ≡ [] }
@@ -209,7 +211,8 @@ impl<C: Lanes> Model for WholeHistory<C> {
 }
 
 impl<C: Lanes> WholeHistory<C> {
-    /// The whole of this new history, of which no input was done yet. In proofs `C` gives the history its name.
+    /// The whole of this new history, of which no input was done yet: the cell, to which all passes of the history belong, and the pass that knows
+    /// all inputs. In proofs `C` gives the history its name.
     pub fn over(new: NewHistory) -> WholeHistory<C>
         requires { new ≡ C.history }
         ensures { result ≡ [] }
@@ -218,6 +221,7 @@ impl<C: Lanes> WholeHistory<C> {
         WholeHistory {
             cell,
             pass,
+            // Names the run in the type, for proofs. Nothing is stored.
             of: PhantomData,
         }
     }
@@ -228,10 +232,11 @@ impl<C: Lanes> WholeHistory<C> {
         requires longer { IsPrefix self.old N.whole }
         ensures { self.new ≡ N.whole }
     {
+        // The number in the cell stays 0. In proofs this write makes the inputs of `N` all inputs.
         self.cell.swap_as::<Extends<N>, R>(rt, &mut self.pass, [0]);
     }
 
-    /// A token of all inputs so far, which a caller keeps for its proofs.
+    /// A token of all inputs so far, which a caller keeps for its proofs: it is split off `self.pass`, the pass that knows all inputs.
     pub fn tell(&mut self) -> KnownHistory<C>
         ensures same { self.new ≡ self.old }
         ensures all { result ≡ self.old }
@@ -239,20 +244,23 @@ impl<C: Lanes> WholeHistory<C> {
         let pass = self.cell.split_pass::<AllSoFar>(&mut self.pass);
         KnownHistory {
             pass,
+            // Names the run in the type, for proofs. Nothing is stored.
             of: PhantomData,
         }
     }
 
-    /// Sets `known` to all inputs so far. What it was before is a beginning of them.
+    /// Sets `known`, what a caller knows, to all inputs so far. What it was before is a beginning of them. `self.pass` is the pass that knows all
+    /// inputs.
     pub fn show<R: Wait>(&mut self, rt: &R, known: &mut KnownHistory<C>)
         ensures same { self.new ≡ self.old }
         ensures all { known.new ≡ self.old }
         ensures longer { IsPrefix known.old known.new }
     {
+        // A new pass, split off the one that knows all inputs: it claims all inputs so far.
         let fresh = self.cell.split_pass::<AllSoFar>(&mut self.pass);
         let all = KnownHistory::over(fresh);
         let pass = mem::replace(known, all).into_pass();
-        // The old pass goes back. For the proof: the read shows that its claim was a beginning of all inputs.
+        // The old pass goes back. For the proof: the read, `load_as`, shows that its claim was a beginning of all inputs.
         self.cell.join_pass::<AllSoFar>(&mut self.pass, pass);
         self.cell.load_as::<Checks, R>(rt, &mut self.pass);
     }

@@ -1,4 +1,5 @@
-//! The file in which the runs of a tree are recorded. `recording.rt` of tree_driver says when.
+//! The file in which the runs of a tree are recorded, as one script with replies. A run is the tree's steps between two handovers.
+//! `recording.rt` of tree_driver says when a run is recorded.
 use channel_names::Channels;
 use office::Office;
 use order_lanes::{Backend, Lanes};
@@ -50,14 +51,18 @@ impl<W: Write + Drop> Recorder<W> {
         Recorder {
             alloc,
             writer,
+            // Whether a run is in the record, and so the script's head line.
             is_begun: false,
+            // How many steps the record has.
             steps: 0,
+            // How many bytes of the present run were written by calls that were refused memory.
             already_written: 0,
+            // Memory that `prepare` sets aside for the text of a run, and `append` gives back: none yet.
             reserve: Vec::new(alloc),
         }
     }
 
-    /// Whether runs are recorded.
+    /// Whether runs are recorded: only where there is a writer.
     pub fn is_there(&self) -> bool {
         self.writer.is_some()
     }
@@ -67,7 +72,8 @@ impl<W: Write + Drop> Recorder<W> {
         self.steps
     }
 
-    /// Sets memory aside for writing a run, if runs are recorded. Call it when the run begins. After `NoMemory` it may be called again.
+    /// Sets memory aside for the text of a run (`RESERVE` bytes), if runs are recorded, which is where there is a writer. Call it when the run
+    /// begins. After `NoMemory` it may be called again.
     pub fn prepare(&mut self) -> Result<(), NoMemory> {
         if self.writer.is_some() {
             self.reserve.reserve(RESERVE)?;
@@ -83,17 +89,21 @@ impl<W: Write + Drop> Recorder<W> {
         office: &Office<C, D, B>,
         known: &mut KnownHistory<C>,
     ) -> Result<(), RecordFault> {
+        // Without a writer no run is recorded.
         let Some(writer) = self.writer.as_mut() else {
             return Ok(());
         };
         // This gives back the memory that was set aside, so that there is some for the text of the run.
         self.reserve = Vec::new(self.alloc);
+        // Earlier calls wrote the first `already_written` bytes of this run: these are skipped.
         let mut rest = RestWriter {
             writer,
             to_skip: self.already_written,
             written: 0,
         };
+        // The head line of the script is written with the first run only.
         let recorded = office.write_run(rt, known, !self.is_begun, &mut rest);
+        // How many bytes this call has written itself.
         let written = rest.written;
         match recorded {
             Ok(count) if writer.flush().is_ok() => {
@@ -102,6 +112,7 @@ impl<W: Write + Drop> Recorder<W> {
                 self.already_written = 0;
                 Ok(())
             }
+            // The next call skips what this one has written.
             Err(RunFault::NoMemory) => {
                 self.already_written = self.already_written.saturating_add(written);
                 Err(RecordFault::NoMemory)
@@ -123,7 +134,8 @@ struct RestWriter<'a, W: Write> {
 }
 
 impl<'a, W: Write> Write for RestWriter<'a, W> {
-    // Skips bytes as long as there are such that were written before, and then writes.
+    // Skips bytes as long as there are such that were written before, and answers them as if it had written them. Then it writes, and counts what
+    // it has written.
     fn write(&mut self, buf: &[u8]) -> io::Result<usize> {
         if self.to_skip > 0 {
             let skipped = self.to_skip.min(buf.len() as u64);
@@ -135,6 +147,7 @@ impl<'a, W: Write> Write for RestWriter<'a, W> {
         Ok(count)
     }
 
+    // Has the writer behind it write out what it still holds.
     fn flush(&mut self) -> io::Result<()> {
         self.writer.flush()
     }
@@ -157,6 +170,7 @@ pub fn create_recorder<R: Files<File = File>>(
         return Err(ErrorKind::WouldBlock.into());
     }
     file.set_permissions(Permissions::from_mode(RECORD_MODE))?;
+    // An earlier record in the file is given up.
     file.set_len(0)?;
     let writer = BufWriter::new(alloc, file)?;
     Ok(Recorder::new(alloc, Some(writer)))
@@ -165,6 +179,7 @@ pub fn create_recorder<R: Files<File = File>>(
 // Makes the file at this path, or opens the one that is there. Only a regular file is opened: to open a pipe would wait for its reader.
 fn open_record<R: Files<File = File>>(rt: &R, path: &str) -> io::Result<File> {
     let mut options = OpenOptions::new();
+    // With `create_new` the opening fails where a file is there: that one is opened by `open_standing`.
     options.append(true).create_new(true).mode(RECORD_MODE);
     match options.open(rt, path) {
         Err(error) if error.kind() == ErrorKind::AlreadyExists => open_standing(rt, path),
@@ -174,6 +189,7 @@ fn open_record<R: Files<File = File>>(rt: &R, path: &str) -> io::Result<File> {
 
 // Opens the regular file that is at this path. `InvalidInput` where the file is not regular, or is replaced meanwhile.
 fn open_standing<R: Files<File = File>>(rt: &R, path: &str) -> io::Result<File> {
+    // The look at the path doesn't follow a link, so a link is not regular here.
     let found = fs::symlink_metadata(rt, path)?;
     if !found.is_file() {
         return Err(ErrorKind::InvalidInput.into());

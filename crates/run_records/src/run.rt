@@ -74,6 +74,7 @@ impl Run {
         ensures room { OnOk result (HasRoom actor self.new) }
     {
         self.log.reserve()?;
+        // The actor's own list, which says where its steps stand in the log.
         self.places[usize::from(actor.number())].reserve()?;
         Ok(())
     }
@@ -86,6 +87,7 @@ impl Run {
         ensures { self.new.steps ≡ self.old.steps
             ++ record { input = I.input input; outcome = outcome_of effect.old } ∷ [] }
     {
+        // The step comes at the log's end.
         self.places[usize::from(input.actor().number())].push(self.log.len());
         self.log.push(input, effect);
     }
@@ -162,6 +164,7 @@ impl Run {
     ) -> Result<Option<Reply<Global>>, NoMemory>
         ensures { IfOk result (λ reply. reply ≡ reply_at actor number self.now.steps) }
     {
+        // An actor's inputs are counted from 1.
         if number == 0 {
             return Ok(None);
         }
@@ -191,6 +194,7 @@ impl Run {
         if let Err(fault) = write_head(head, writer) {
             return Err(fault);
         }
+        // Working memory, which each step fills anew.
         let mut text = Vec::new(alloc);
         let mut effect = Effect::new(alloc);
         for place in 0..self.log.len() {

@@ -1,4 +1,4 @@
-//! The steps of a run, in little room.
+//! The steps of a run, in little room. A step's code is its input and what it gave, as some dozens of bytes (`step_codes`).
 ghost use Rattle.std.specs.Prelude.{◌≡◌, ◌<◌, ◌≤◌, [], ◌∷◌, ◌++◌, length, OnOk, IfOk, IsTrue, IsFalse, slice_get, Some, drop};
 ghost use Rattle.tree_core.specs.Effect.{outcome_of};
 ghost use Rattle.tree_core.specs.Limits.{order_limit};
@@ -93,6 +93,7 @@ impl StepLog {
             return Err(NoMemory);
         }
         self.starts.reserve(1)?;
+        // Room for the step as it is: where it has no code, or memory for its code is refused, it is kept so.
         self.whole.reserve()
     }
 
@@ -112,6 +113,7 @@ impl StepLog {
         self.scratch.clear();
         match input.push_step(&mut self.scratch, effect) {
             Ok(true) => {}
+            // It has no code, or memory for it was refused: it is kept whole.
             _ => return false,
         }
         if self
@@ -146,6 +148,7 @@ impl StepLog {
         ensures { self.new.steps
             ≡ self.old.steps ++ record { input = input; outcome = outcome_of effect.old } ∷ [] }
     {
+        // `reserve` has seen to it that the place fits into 32 bits.
         let place = self.whole.len() as u32;
         self.whole.push(input, effect);
         self.starts.push_reserved(Start::Whole(place));
@@ -193,6 +196,7 @@ impl StepLog {
     {
         match self.look(place) {
             Stored::Coded(mut code) => {
+                // The reply stands behind the actor and the moment.
                 let _head = take_head(&mut code);
                 Ok(take_reply(&mut code))
             }
@@ -210,6 +214,7 @@ impl StepLog {
         match self.starts[place] {
             Start::Coded(start) => {
                 let mut code = code_from(self.codes.as_slice(), start);
+                // What the step gave stands behind the actor and the moment.
                 let _head = take_head(&mut code);
                 take_outcome(&mut code, effect)?;
                 Ok(())

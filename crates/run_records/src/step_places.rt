@@ -38,6 +38,7 @@ impl StepPlaces {
         ensures places { self.new.places ≡ self.old.places }
         ensures room { OnOk result (1 ≤ self.new.room) }
     {
+        // At the actor's first step it takes room for all of them, if it gets it.
         if self.list.capacity() == 0 {
             if let Ok(()) = self.list.reserve(FIRST_ROOM) {
                 return Ok(());

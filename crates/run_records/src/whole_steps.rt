@@ -1,4 +1,4 @@
-//! Steps that are kept as they are.
+//! Steps that are kept as they are: they have no code in bytes, or memory for it was refused. Their orders stand in one list for all.
 ghost use Rattle.std.specs.Prelude.{◌≡◌, ◌<◌, ◌≤◌, [], ◌∷◌, ◌++◌, length, OnOk, IfOk, slice_get, Some};
 ghost use Rattle.tree_core.specs.Effect.{outcome_of};
 ghost use Rattle.tree_core.specs.Limits.{order_limit};
@@ -67,6 +67,7 @@ impl WholeSteps {
             ≡ self.old.steps ++ record { input = input; outcome = outcome_of effect.old } ∷ [] }
     {
         let alloc = *self.records.allocator();
+        // The step's part of the one list of orders.
         let first = self.orders.len();
         let count = effect.orders.len();
         // There is room: the clauses ask for it.
@@ -115,6 +116,7 @@ fn fill_effect(orders: &[Order], one: &Record, effect: &mut Effect<Global>) -> R
 {
     let alloc = *effect.events.allocator();
     effect.orders.clear();
+    // The step's part of the one list of orders.
     let part = &orders[one.first..one.first + one.count];
     // An effect has room for the orders of any step.
     if effect.orders.try_extend_from_slice(part).is_err() {

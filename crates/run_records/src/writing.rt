@@ -108,6 +108,7 @@ fn read_step(
         → FitsStep s.input s.outcome → code.old ≡ step_onto s.input s.outcome rest
         → (input ≡ s.input) × (outcome_of effect.new ≡ s.outcome)) }
 {
+    // A step's code has these three behind one another.
     let (actor, at) = take_head(code);
     take_outcome(code, effect)?;
     let act = take_act(alloc, code)?;

@@ -1,4 +1,5 @@
-//! The words of an act: what it is, what it is about, and whether it has a line of its own once it is done.
+//! The words of an act (what an input asks or reports) in a story: what it is, what it is about, and whether it has a line of its own once it
+//! is done.
 ghost use Rattle.std.specs.Prelude.{◌≡◌, ◌++◌, ◌∷◌, OnOk};
 ghost use Rattle.std.specs.List.{flat_map};
 ghost use Rattle.run_stories.specs.Requests.{is_told};
@@ -29,7 +30,8 @@ pub fn is_told<A: Allocator>(act: &Act<A>) -> bool
     }
 }
 
-/// What an act is, with a space behind it where `push_body` adds more.
+/// What an act is, with a space behind it where `push_body` adds more. Of the two commands to all services, nuke ends those that are not listed,
+/// terminate ends all.
 pub fn head_of<A: Allocator>(act: &Act<A>) -> &'static [u8]
     ensures { result.now ≡ head_words act.now }
 {
@@ -56,7 +58,7 @@ pub fn head_of<A: Allocator>(act: &Act<A>) -> &'static [u8]
     }
 }
 
-// Adds which event directory is meant.
+// Adds to the text which event directory is meant: by the name of its service, or as `directory` with its own name.
 fn push_target<A: Allocator>(text: &mut Vec<u8, A>, target: &Target) -> Result<(), AllocError>
     ensures { OnOk result (text.new.items ≡ text.old.items ++ target_text target.now) }
 {
@@ -93,7 +95,7 @@ fn condition_bytes(condition: Condition) -> &'static [u8]
     }
 }
 
-// Adds a name behind a comma.
+// Adds a name to the text, behind a comma.
 fn push_further_name<A: Allocator>(text: &mut Vec<u8, A>, name: &Name) -> Result<(), AllocError>
     ensures { OnOk result (text.new.items ≡ text.old.items ++ 44 ∷ 32 ∷ name.now) }
 {
@@ -101,7 +103,7 @@ fn push_further_name<A: Allocator>(text: &mut Vec<u8, A>, name: &Name) -> Result
     text.extend_from_slice(name.as_bytes())
 }
 
-// Adds names, each behind a comma.
+// Adds names to the text, each behind a comma.
 fn push_further_names<A: Allocator>(text: &mut Vec<u8, A>, names: &[Name]) -> Result<(), AllocError>
     ensures { OnOk result (text.new.items
         ≡ text.old.items ++ flat_map (λ name. 44 ∷ 32 ∷ name) names.now) }
@@ -112,7 +114,7 @@ fn push_further_names<A: Allocator>(text: &mut Vec<u8, A>, names: &[Name]) -> Re
     Ok(())
 }
 
-// Adds names, with a comma between each two.
+// Adds names to the text, with a comma between each two.
 fn push_names<A: Allocator>(text: &mut Vec<u8, A>, names: &[Name]) -> Result<(), AllocError>
     ensures { OnOk result (text.new.items ≡ text.old.items ++ names_text names.now) }
 {
@@ -123,7 +125,7 @@ fn push_names<A: Allocator>(text: &mut Vec<u8, A>, names: &[Name]) -> Result<(),
     Ok(())
 }
 
-// Adds how long a waiter waits at most; nothing where it waits for ever.
+// Adds to the text how long a waiter waits at most, in seconds; nothing where it waits for ever. `timeout` is in milliseconds, 0 for none.
 fn push_patience<A: Allocator>(text: &mut Vec<u8, A>, timeout: u32) -> Result<(), AllocError>
     ensures { OnOk result (text.new.items ≡ text.old.items ++ patience_text timeout) }
 {
@@ -134,7 +136,7 @@ fn push_patience<A: Allocator>(text: &mut Vec<u8, A>, timeout: u32) -> Result<()
     Ok(())
 }
 
-// Adds what a waiter waits for.
+// Adds to the text what a waiter waits for: of which services, what they are to be, and for how long at most.
 fn push_wait<A: Allocator>(
     text: &mut Vec<u8, A>,
     condition: Condition,
@@ -151,7 +153,8 @@ fn push_wait<A: Allocator>(
     push_patience(text, timeout)
 }
 
-/// Adds what an act is about. Services are named by these rows. An error where memory is refused.
+/// Adds to the text what an act is about: whom it names, and what it sends or waits for. A report names its service by a serial: its name is found
+/// in these rows. An error where memory is refused.
 pub fn push_body<A: Allocator>(
     text: &mut Vec<u8, A>,
     rows: &[Row],

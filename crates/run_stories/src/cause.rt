@@ -1,4 +1,4 @@
-//! What an act tells of a program of a service.
+//! What an act tells of a program of a service: the cause of the events that its step gives.
 ghost use Rattle.std.specs.Prelude.{◌≡◌};
 ghost use Rattle.run_stories.specs.Requests.{cause_of};
 
@@ -19,7 +19,7 @@ pub enum Cause {
     Other,
 }
 
-/// What this act tells.
+/// What this act tells of a program: a spawn, or an end of `run` or `finish`.
 pub fn cause_of<A: Allocator>(act: &Act<A>) -> Cause
     ensures { result ≡ cause_of act.now }
 {

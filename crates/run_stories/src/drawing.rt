@@ -1,4 +1,5 @@
-//! The drawing of a timeline: a picture in SVG that needs no other file.
+//! The drawing of a timeline: a picture in SVG that needs no other file. It has a lane for each service name, cut by shades (what the service is),
+//! a legend of the shades above, and an axis with moments below.
 use crate::intervals::Interval;
 use crate::scale::{MARKS, Scale, WIDTH};
 use crate::shade::Shade;
@@ -52,7 +53,7 @@ pub struct Layout {
 }
 
 impl Layout {
-    /// The layout for `lanes` lanes, whose longest name has `letters` letters.
+    /// The layout for `lanes` lanes, whose longest name has `letters` letters: the names stand left of the lanes, the legend above them.
     pub fn of(lanes: usize, letters: usize) -> Layout {
         let left = (letters as u64).saturating_mul(LETTER);
         let height = (lanes as u64).saturating_mul(LANE);
@@ -101,7 +102,7 @@ fn word_of(shade: Shade) -> &'static str {
     }
 }
 
-// Writes the beginning of the picture.
+// Writes the beginning of the picture: its size, its fonts, its title, and a white ground.
 fn write_head<W: Write>(writer: &mut W, layout: Layout) -> io::Result<()> {
     let width = layout.left.saturating_add(LANES_WIDTH + RIGHT);
     let height = layout.axis.saturating_add(BOTTOM);
@@ -117,18 +118,19 @@ fn write_head<W: Write>(writer: &mut W, layout: Layout) -> io::Result<()> {
     )
 }
 
-// Writes an entry of the legend: a line of this shade, and its word.
+// Writes an entry of the legend, which begins at `left` pixels: a line of this shade, and its word.
 fn write_key<W: Write>(writer: &mut W, left: u64, shade: Shade) -> io::Result<()> {
     let (colour, thickness, word) = (colour_of(shade), thickness_of(shade), word_of(shade));
     write!(
         writer,
         "<path stroke=\"{colour}\" stroke-width=\"{thickness}\" d=\"M{left} 18h16\"/>"
     )?;
+    // The word stands behind the line, which is 16 pixels long.
     let text = left.saturating_add(22);
     write!(writer, "<text x=\"{text}\" y=\"22\">{word}</text>\n")
 }
 
-// Writes the legend.
+// Writes the legend: an entry for each shade, from where the lanes begin, at even distances.
 fn write_legend<W: Write>(writer: &mut W, layout: Layout) -> io::Result<()> {
     let mut left = layout.left;
     for shade in SHADES {
@@ -138,8 +140,8 @@ fn write_legend<W: Write>(writer: &mut W, layout: Layout) -> io::Result<()> {
     Ok(())
 }
 
-// Writes a mark of the axis: a line through all lanes, and the moment below it, in seconds. It has three decimals where marks are less than
-// a second apart.
+// Writes a mark of the axis: a line through all lanes, and the moment below it, in seconds. It has three decimals where the `step` from mark to
+// mark, in milliseconds, is less than a second.
 fn write_mark<W: Write>(
     writer: &mut W,
     layout: Layout,
@@ -147,6 +149,7 @@ fn write_mark<W: Write>(
     step: u64,
     at: At,
 ) -> io::Result<()> {
+    // The scale gives tenths of a pixel.
     let x = layout.left.saturating_add(scale.place(at) / 10);
     // The line goes from the top of the lanes to 6 pixels below the axis.
     let height = layout.axis.saturating_sub(TOP).saturating_add(6);
@@ -163,7 +166,7 @@ fn write_mark<W: Write>(
     }
 }
 
-// Writes the marks of the axis, at multiples of their step.
+// Writes the marks of the axis, at multiples of their step, up to the last moment of the scale.
 fn write_marks<W: Write>(writer: &mut W, layout: Layout, scale: &Scale) -> io::Result<()> {
     let step = scale.mark_step();
     let mut millis = scale.first_mark(step);
@@ -177,7 +180,7 @@ fn write_marks<W: Write>(writer: &mut W, layout: Layout, scale: &Scale) -> io::R
     Ok(())
 }
 
-/// Writes all of the picture but the lanes and its end: the legend, and the time along the bottom.
+/// Writes all of the picture but the lanes and its end: the legend, and the time along the bottom with its unit in the middle.
 pub fn write_frame<W: Write>(writer: &mut W, layout: Layout, scale: &Scale) -> io::Result<()> {
     write_head(writer, layout)?;
     write_legend(writer, layout)?;
@@ -192,7 +195,7 @@ pub fn write_frame<W: Write>(writer: &mut W, layout: Layout, scale: &Scale) -> i
     )
 }
 
-// Writes a number of tenths as a decimal number.
+// Writes a number of tenths (of a pixel) as a decimal number.
 fn write_tenths<W: Write>(writer: &mut W, tenths: u64) -> io::Result<()> {
     let (whole, tenth) = (tenths / 10, tenths % 10);
     if tenth == 0 {
@@ -202,7 +205,7 @@ fn write_tenths<W: Write>(writer: &mut W, tenths: u64) -> io::Result<()> {
     }
 }
 
-// Writes an interval: a move to its beginning, and a line to its end.
+// Writes an interval, whose places are in tenths of a pixel, as a part of a path: a move (M) to its beginning, and a line (h) to its end.
 fn write_interval<W: Write>(writer: &mut W, interval: &Interval) -> io::Result<()> {
     writer.write_all(b"M")?;
     write_tenths(writer, interval.from)?;
@@ -228,7 +231,7 @@ fn write_shade<W: Write>(writer: &mut W, intervals: &[Interval], shade: Shade) -
     writer.write_all(b"\"/>\n")
 }
 
-/// Writes a lane: its name at the left, and its intervals. `place` is its number from the top, from 0.
+/// Writes a lane: its name at the left, and its intervals, those of each shade as one path. `place` is its number from the top, from 0.
 pub fn write_lane<W: Write>(
     writer: &mut W,
     layout: Layout,
@@ -237,6 +240,7 @@ pub fn write_lane<W: Write>(
     intervals: &[Interval],
 ) -> io::Result<()> {
     let left = layout.left;
+    // The height at which its lines are drawn: below the legend and the lanes above it.
     let middle = (place as u64)
         .saturating_mul(LANE)
         .saturating_add(TOP + LANE / 2);

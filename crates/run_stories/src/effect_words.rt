@@ -1,4 +1,4 @@
-//! The lines of what a step gives beside its reply: events, orders, matches and releases.
+//! The lines of a story for what a step gives beside its reply: events, orders, matches and releases. A line begins with its moment.
 ghost use Rattle.std.specs.Prelude.{◌≡◌, ◌==◌, ◌++◌, codes, decimal, find, option_map, OnOk};
 ghost use Rattle.std.specs.List.{flat_map};
 ghost use Rattle.tree_core.specs.Effect.{outcome_of};
@@ -14,7 +14,7 @@ use std::alloc::{AllocError, Allocator};
 use supervise_core::Row;
 use tree_core::{Effect, Event, Hit, Match, Release, Verdict};
 
-// Adds a signal by its name, or by its number where it has none.
+// Adds a signal to the text, by its name, or by its number where it has none.
 fn push_signal<A: Allocator>(text: &mut Vec<u8, A>, number: u8) -> Result<(), AllocError>
     ensures { OnOk result (text.new.items ≡ text.old.items ++ signal_text number) }
 {
@@ -24,7 +24,7 @@ fn push_signal<A: Allocator>(text: &mut Vec<u8, A>, number: u8) -> Result<(), Al
     }
 }
 
-// Adds how a program ended.
+// Adds to the text how a program ended: with an exit code, or killed by a signal.
 fn push_end<A: Allocator>(text: &mut Vec<u8, A>, exit: Exit) -> Result<(), AllocError>
     ensures { OnOk result (text.new.items ≡ text.old.items ++ end_text exit) }
 {
@@ -40,14 +40,14 @@ fn push_end<A: Allocator>(text: &mut Vec<u8, A>, exit: Exit) -> Result<(), Alloc
     }
 }
 
-/// The row of this serial; None where there is no such row.
+/// The status row of the service of this serial; None where there is no such row.
 pub fn row_of<'a>(rows: &'a [Row], sid: Sid) -> Option<&'a Row>
     ensures { option_map (λ r. r.now) result ≡ find (λ row. row.sid == sid) rows.entry.now }
 {
     rows.iter().find(|row| row.sid == sid)
 }
 
-// Adds the name of a row, or the serial where there is no row.
+// Adds to the text the name of a service in its row, or its serial where there is no row.
 fn push_row_name<A: Allocator>(
     text: &mut Vec<u8, A>,
     row: Option<&Row>,
@@ -76,14 +76,14 @@ pub fn push_service<A: Allocator>(
     push_row_name(text, row_of(rows, sid), sid)
 }
 
-// Adds a process number.
+// Adds a process number to the text.
 fn push_process<A: Allocator>(text: &mut Vec<u8, A>, pid: u32) -> Result<(), AllocError>
     ensures { OnOk result (text.new.items ≡ text.old.items ++ decimal pid) }
 {
     push_number(text, u64::from(pid))
 }
 
-// Adds the words of a spawn, with the process number where the step's act told it.
+// Adds the words of a spawn to the text, with the process number where the step's act told it (`cause`).
 fn push_spawned<A: Allocator>(text: &mut Vec<u8, A>, cause: Cause) -> Result<(), AllocError>
     ensures { OnOk result (text.new.items ≡ text.old.items ++ spawned_words cause) }
 {
@@ -96,7 +96,7 @@ fn push_spawned<A: Allocator>(text: &mut Vec<u8, A>, cause: Cause) -> Result<(),
     }
 }
 
-// Adds the words of a death, with how `run` ended where the step's act told it.
+// Adds the words of a death to the text, with how `run` ended where the step's act told it (`cause`).
 fn push_died<A: Allocator>(text: &mut Vec<u8, A>, cause: Cause) -> Result<(), AllocError>
     ensures { OnOk result (text.new.items ≡ text.old.items ++ died_words cause) }
 {
@@ -109,8 +109,8 @@ fn push_died<A: Allocator>(text: &mut Vec<u8, A>, cause: Cause) -> Result<(), Al
     }
 }
 
-// Adds the words of a service that is down with its `finish` done: how `finish` ended where the step's act told it, or just `down`, as where
-// no `finish` ran.
+// Adds the words of a service that is down with its `finish` done to the text: how `finish` ended where the step's act told it (`cause`), or just
+// `down`, as where no `finish` ran.
 fn push_done<A: Allocator>(text: &mut Vec<u8, A>, cause: Cause) -> Result<(), AllocError>
     ensures { OnOk result (text.new.items ≡ text.old.items ++ done_words cause) }
 {
@@ -123,7 +123,7 @@ fn push_done<A: Allocator>(text: &mut Vec<u8, A>, cause: Cause) -> Result<(), Al
     }
 }
 
-// Adds the words of an event.
+// Adds the words of an event to the text, by its mark. `cause` is what the step's act told of a program, such as how it ended.
 fn push_event_words<A: Allocator>(
     text: &mut Vec<u8, A>,
     cause: Cause,
@@ -142,7 +142,7 @@ fn push_event_words<A: Allocator>(
     }
 }
 
-// Adds the beginning of a line about a service.
+// Adds the beginning of a line about a service to the text: the moment, and the service, which is named by these rows.
 fn push_front<A: Allocator>(
     text: &mut Vec<u8, A>,
     now: At,
@@ -157,7 +157,7 @@ fn push_front<A: Allocator>(
     Ok(())
 }
 
-/// Adds a line about a service, with these words. An error where memory is refused.
+/// Adds a line about a service, with these words behind its name. Its name is found in these rows. An error where memory is refused.
 pub fn push_service_line<A: Allocator>(
     text: &mut Vec<u8, A>,
     now: At,
@@ -206,7 +206,7 @@ fn push_events<A: Allocator>(
     Ok(())
 }
 
-// Adds which signal is sent to `run`.
+// Adds to the text which signal is sent to `run`, up to the name of its service, which follows.
 fn push_signal_words<A: Allocator>(text: &mut Vec<u8, A>, number: u8) -> Result<(), AllocError>
     ensures { OnOk result (text.new.items
         ≡ text.old.items ++ (codes "signal " ++ (signal_text number ++ codes " to "))) }
@@ -224,7 +224,7 @@ fn kill_bytes() -> &'static [u8]
     b"signal KILL to finish of "
 }
 
-// Adds the line of a signal, with these words.
+// Adds the line of a signal: the moment, these words, and the name of the service, which is found in these rows.
 fn push_signal_line<A: Allocator>(
     text: &mut Vec<u8, A>,
     now: At,
@@ -241,7 +241,7 @@ fn push_signal_line<A: Allocator>(
     text.extend_from_slice(b"\n")
 }
 
-// Adds the line of an order.
+// Adds the line of an order: what is to be started or signalled for which service. These rows name the service.
 fn push_order<A: Allocator>(
     text: &mut Vec<u8, A>,
     now: At,
@@ -255,6 +255,7 @@ fn push_order<A: Allocator>(
         Order::Finish(sid, _, _, _, _) => {
             push_service_line(text, now, rows, *sid, b"finish to be started")
         }
+        // The words of a signal have a number, so that the line is made here of its parts.
         Order::Signal(sid, _, signal) => {
             push_moment(text, now)?;
             push_signal_words(text, *signal)?;
@@ -281,7 +282,7 @@ fn push_orders<A: Allocator>(
     Ok(())
 }
 
-/// The word of a subscription.
+/// The word that stands before the serial of a subscription, with a space behind it.
 #[tactic(auto, unfolding(crate::specs::Words::subscription_word))]
 pub fn subscription_bytes() -> &'static [u8]
     ensures { result.now ≡ subscription_word }
@@ -302,7 +303,7 @@ fn push_hit<A: Allocator>(text: &mut Vec<u8, A>, hit: Hit) -> Result<(), AllocEr
     }
 }
 
-// Adds the line of a match.
+// Adds the line of a match: the moment, the subscription by its serial, and the letter at which its text matched.
 fn push_match<A: Allocator>(text: &mut Vec<u8, A>, now: At, found: &Match) -> Result<(), AllocError>
     ensures { OnOk result (text.new.items ≡ text.old.items ++ match_line now found.now) }
 {
@@ -337,7 +338,7 @@ fn verdict_bytes(verdict: Verdict) -> &'static [u8]
     }
 }
 
-// Adds the line of a release.
+// Adds the line of a release: the moment, the waiter by its serial, and how its wait ended (its verdict).
 fn push_release<A: Allocator>(
     text: &mut Vec<u8, A>,
     now: At,

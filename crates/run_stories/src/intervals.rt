@@ -1,4 +1,4 @@
-//! The intervals of a lane, in tenths of a pixel.
+//! The intervals of a lane of a timeline, in tenths of a pixel: each shows one shade, which is what the service was.
 ghost use Rattle.std.specs.Prelude.{◌≡◌, OnOk};
 ghost use Rattle.run_stories.specs.Intervals.{Fill, shown_at, with_interval};
 ghost use Rattle.run_stories.specs.declared.shade.Shade.TheVariants.{Absent};
@@ -16,7 +16,7 @@ pub struct Interval {
     pub shade: Shade,
 }
 
-// Adds an interval, unless it would be empty.
+// Adds an interval of this shade, unless it would be empty.
 fn cut<A: Allocator>(
     intervals: &mut Vec<Interval, A>,
     from: u64,
@@ -31,8 +31,8 @@ fn cut<A: Allocator>(
     Ok(())
 }
 
-/// Makes the intervals those of a lane with these changes. They fill the whole width, one behind the other, and show at each tenth of a
-/// pixel the shade of the last change up to there. An error where memory is refused.
+/// Makes the intervals those of a lane with these changes, each of which begins a shade at a moment. They fill the whole width, one behind the
+/// other, and show at each tenth of a pixel the shade of the last change up to there. An error where memory is refused.
 pub fn cut_lane<A: Allocator>(
     scale: &Scale,
     changes: &[Change],
@@ -46,9 +46,11 @@ pub fn cut_lane<A: Allocator>(
     let mut shade = Shade::Absent;
     for change in changes {
         let place = scale.place(change.at);
+        // What the lane showed before ends at the place of this change.
         cut(intervals, from, place, shade)?;
         from = place.max(from);
         shade = change.shade;
     }
+    // The last shade goes on to the end.
     cut(intervals, from, WIDTH, shade)
 }

@@ -1,4 +1,4 @@
-//! The lanes of a timeline: what each shows, and from when on.
+//! The lanes of a timeline, one for each service name: what each shows (a shade: up, ready, down and so on), and from when on.
 ghost use Rattle.std.specs.Prelude.{◌<◌, IfSome, IfOk, length};
 
 use crate::effect_words::row_of;
@@ -30,7 +30,7 @@ pub struct TimelineLanes<A: Allocator> {
     pub lanes: Vec<TimelineLane<A>, A>,
 }
 
-// Adds a change, if the shade is another than before. Of two changes at one moment the later one stays.
+// Adds a change of a lane, if the shade is another than before. Of two changes at one moment the later one stays.
 fn note<A: Allocator>(
     changes: &mut Vec<Change, A>,
     at: At,
@@ -55,7 +55,7 @@ impl<A: Allocator + Copy> TimelineLanes<A> {
         }
     }
 
-    // The place of the lane with this name. Where there is no such lane, it is made.
+    // The place of the lane with this name. Where there is no such lane, it is made: it shows nothing yet.
     fn place_of(&mut self, alloc: A, name: Name) -> Result<usize, AllocError>
         ensures { IfOk result (λ place. place < length self.new.lanes.items) }
     {
@@ -76,7 +76,8 @@ impl<A: Allocator + Copy> TimelineLanes<A> {
         Ok(place)
     }
 
-    // Notes what the lane of this name shows now, after this mark, if there is one.
+    // Notes what the lane of this name shows now. `mark` is a mark that its service has given in the step, if any; `row` is the status row of the
+    // service, None where it is gone.
     fn hear(
         &mut self,
         alloc: A,
@@ -90,6 +91,7 @@ impl<A: Allocator + Copy> TimelineLanes<A> {
         if let Some(mark) = mark {
             lane.standing = standing_after(lane.standing, mark);
         }
+        // What the marks say of the service (its standing) and its row give the shade.
         let shade = match row {
             Some(row) => shade_of(lane.standing, &row),
             None => Shade::Absent,
@@ -97,9 +99,9 @@ impl<A: Allocator + Copy> TimelineLanes<A> {
         note(&mut lane.changes, now, shade)
     }
 
-    /// Notes what lanes show after a step: those of the services with an event in it, and that of `named`, if there is such a service.
-    /// `named` is the service to which the step sent letters, which may change what its lane shows without an event. Services are named by
-    /// these rows. An error where memory is refused.
+    /// Notes what lanes show after a step: those of the services with an event in it, and that of `named`, if there is such a service. `named` is
+    /// the service to which the step sent letters, which may change what its lane shows without an event. An event has the serial of its service:
+    /// these rows have its name. An error where memory is refused.
     pub fn note_step(
         &mut self,
         alloc: A,

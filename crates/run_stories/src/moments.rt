@@ -1,4 +1,4 @@
-//! Moments in seconds.
+//! Moments in seconds, as a story writes them.
 ghost use Rattle.std.specs.Prelude.{◌≡◌, ◌<◌, ◌++◌, OnOk};
 ghost use Rattle.run_stories.specs.Moments.{three_digits, seconds_text, moment_text, serial_front};
 
@@ -9,7 +9,7 @@ use std::alloc::{AllocError, Allocator};
 /// The milliseconds of a second.
 const SECOND: u64 = 1000;
 
-// Adds a number below 1,000 by three digits.
+// Adds a number below 1,000 to the text, by three digits.
 fn push_three_digits<A: Allocator>(text: &mut Vec<u8, A>, number: u64) -> Result<(), AllocError>
     requires { number < 1000 }
     ensures { OnOk result (text.new.items ≡ text.old.items ++ three_digits number) }
@@ -21,7 +21,7 @@ fn push_three_digits<A: Allocator>(text: &mut Vec<u8, A>, number: u64) -> Result
     ])
 }
 
-/// Adds `millis` milliseconds in seconds, with three decimals. An error where memory is refused.
+/// Adds to the text a number of milliseconds (`millis`) in seconds, with three decimals. An error where memory is refused.
 pub fn push_seconds<A: Allocator>(text: &mut Vec<u8, A>, millis: u64) -> Result<(), AllocError>
     ensures { OnOk result (text.new.items ≡ text.old.items ++ seconds_text millis) }
 {
@@ -39,7 +39,7 @@ pub fn push_moment<A: Allocator>(text: &mut Vec<u8, A>, now: At) -> Result<(), A
     Ok(())
 }
 
-/// Adds the moment with which a line begins, a space, a word, and a serial. An error where memory is refused.
+/// Adds to the text the moment with which a line begins, a space, a word (such as `wait `), and a serial. An error where memory is refused.
 pub fn push_serial<A: Allocator>(
     text: &mut Vec<u8, A>,
     now: At,

@@ -1,4 +1,4 @@
-//! The lines of a reply.
+//! The lines of a story for the reply to an act. A line begins with its moment.
 ghost use Rattle.std.specs.Prelude.{◌≡◌, ◌++◌, [], codes, OnOk, if◌then◌else◌};
 ghost use Rattle.std.specs.List.{flat_map};
 ghost use Rattle.run_stories.specs.Moments.{moment_text};
@@ -11,7 +11,8 @@ use std::alloc::{AllocError, Allocator};
 use supervise_core::Row;
 use tree_core::{Listed, Refusal, Reply};
 
-// The word by which a story says why an act was refused.
+// The word by which a story says why an act was refused. late: a report of another run than the present one; reserved: a message to the event
+// directory of a service, which takes none; spent: the tree takes no more steps.
 fn reason_bytes(refusal: Refusal) -> &'static [u8]
     ensures { result.now ≡ reason_word refusal }
 {
@@ -30,7 +31,7 @@ fn reason_bytes(refusal: Refusal) -> &'static [u8]
     }
 }
 
-// Adds the moment, what an act is, and what it is about.
+// Adds to the text the moment, what an act is (`head`), and what it is about (`body`).
 fn push_act<A: Allocator>(
     text: &mut Vec<u8, A>,
     now: At,
@@ -45,7 +46,7 @@ fn push_act<A: Allocator>(
     text.extend_from_slice(body)
 }
 
-// Adds the line of an act that was refused.
+// Adds the line of an act that was refused: what it is (`head`), what it is about (`body`), and why it was refused.
 fn push_refused<A: Allocator>(
     text: &mut Vec<u8, A>,
     now: At,
@@ -62,7 +63,7 @@ fn push_refused<A: Allocator>(
     text.extend_from_slice(b"\n")
 }
 
-// Adds the line of an act that was done, if it has one.
+// Adds the line of an act that was done, if it has one (`told`): what it is (`head`), and what it is about (`body`).
 fn push_act_done<A: Allocator>(
     text: &mut Vec<u8, A>,
     now: At,
@@ -80,7 +81,7 @@ fn push_act_done<A: Allocator>(
     text.extend_from_slice(b"\n")
 }
 
-// Adds the line of a new waiter, or a new subscription.
+// Adds the line of a new waiter, or a new subscription: its word, its serial, and what it is about (`body`).
 fn push_made<A: Allocator>(
     text: &mut Vec<u8, A>,
     now: At,
@@ -97,7 +98,7 @@ fn push_made<A: Allocator>(
     text.extend_from_slice(b"\n")
 }
 
-// Adds a line for each service that was dropped.
+// Adds a line for each service that a scan dropped. They are named by these rows, which are those before the scan.
 fn push_all_dropped<A: Allocator>(
     text: &mut Vec<u8, A>,
     now: At,
@@ -113,7 +114,7 @@ fn push_all_dropped<A: Allocator>(
     Ok(())
 }
 
-// Adds a line that begins with a name.
+// Adds a line that begins, behind its moment, with a name. `words` are the rest of it, with its newline.
 fn push_name_line<A: Allocator>(
     text: &mut Vec<u8, A>,
     now: At,
@@ -128,7 +129,7 @@ fn push_name_line<A: Allocator>(
     text.extend_from_slice(words)
 }
 
-// Adds the line of a name that a scan found and that no service had before.
+// Adds the line of a name that a scan found and that no service had before: what became of it.
 fn push_listed<A: Allocator>(
     text: &mut Vec<u8, A>,
     now: At,
@@ -158,8 +159,8 @@ fn push_all_listed<A: Allocator>(
     Ok(())
 }
 
-/// Adds the lines of a reply to an act with these words. `told` is whether the act has a line of its own once it is done. Services that
-/// were dropped are named by these rows. An error where memory is refused.
+/// Adds the lines of a reply to an act: `head` is what the act is, `body` what it is about, and `told` whether it has a line of its own once it is
+/// done. Services that were dropped are named by these rows. An error where memory is refused.
 pub fn push_reply_lines<A: Allocator>(
     text: &mut Vec<u8, A>,
     now: At,
@@ -183,6 +184,7 @@ pub fn push_reply_lines<A: Allocator>(
         Reply::Subscription(subscription) => {
             push_made(text, now, subscription_bytes(), subscription.0, body)
         }
+        // Answers to questions have no line.
         Reply::Row(_) | Reply::Tally(_) | Reply::PermanentFailure(_) => Ok(()),
     }
 }

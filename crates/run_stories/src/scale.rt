@@ -18,14 +18,14 @@ pub struct Scale {
 }
 
 impl Scale {
-    // How many milliseconds the width stands for.
+    // How many milliseconds the width of the lanes stands for.
     fn whole(&self) -> u64
         ensures { result ≡ self.now.last - self.now.first }
     {
         self.last.millis().saturating_sub(self.first.millis())
     }
 
-    /// The place of a moment, in tenths of a pixel.
+    /// The place of a moment on the width of the lanes, in tenths of a pixel: `WIDTH` of them stand for all moments of the scale.
     pub fn place(&self, at: At) -> u64
         ensures { result ≡ place_of self.now at }
     {
@@ -40,6 +40,7 @@ impl Scale {
     {
         let whole = self.whole();
         let mut unit = 1;
+        // The greatest power of ten that is no more than `whole`, or 1.
         for _ in 0..18 {
             if unit <= whole / 10 {
                 unit *= 10;
@@ -55,7 +56,8 @@ impl Scale {
         }
     }
 
-    /// The first moment that is marked, in milliseconds, where marks are `step` milliseconds apart.
+    /// The first moment that is marked, in milliseconds, where marks are `step` milliseconds apart: the first multiple of that from where the scale
+    /// begins.
     pub fn first_mark(&self, step: u64) -> u64 {
         let first = self.first.millis();
         first.checked_next_multiple_of(step).unwrap_or(first)

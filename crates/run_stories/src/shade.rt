@@ -1,4 +1,4 @@
-//! What a lane shows of a service.
+//! The shade of a lane: what it shows of a service at a moment, by the marks of the service (its standing) and by its status row.
 ghost use Rattle.std.specs.Prelude.{◌≡◌};
 ghost use Rattle.run_stories.specs.Lanes.{standing_after, done_shade, row_shade, shade_of};
 
@@ -35,7 +35,7 @@ pub enum Standing {
     Gone,
 }
 
-/// The standing of a service after one more mark.
+/// What the marks of a service say of it (its standing) after one more mark: whether its supervisor is there, and whether it failed for good.
 pub fn standing_after(standing: Standing, mark: Mark) -> Standing
     ensures { result ≡ standing_after standing mark }
 {
@@ -47,7 +47,7 @@ pub fn standing_after(standing: Standing, mark: Mark) -> Standing
     }
 }
 
-// The shade of a service that is down with its `finish` done.
+// The shade of a service that is down with its `finish` done: where it is wanted up it pauses before its next start, else it stays down.
 fn done_shade(standing: Standing, wanted_up: bool) -> Shade
     ensures { result ≡ done_shade wanted_up standing }
 {
@@ -60,7 +60,7 @@ fn done_shade(standing: Standing, wanted_up: bool) -> Shade
     }
 }
 
-// The shade of a service whose supervisor is there.
+// The shade of a service whose supervisor is there. A row that is neither up nor ready is that of a service whose `finish` isn't done.
 fn row_shade(standing: Standing, row: &Row) -> Shade
     ensures { result ≡ row_shade row.now.up row.now.ready row.now.wanted_up standing }
 {

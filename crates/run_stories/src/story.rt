@@ -1,4 +1,4 @@
-//! The story of a script: a line for each event.
+//! The story of a script: a line for each event. The script is replayed step by step, and a teller makes the lines of each step.
 ghost use Rattle.std.specs.Prelude.{◌≡◌, ◌<◌, ◌++◌, [], OnOk, IfOk, IfErr};
 ghost use Rattle.std.specs.Io.KnownBytes.{Appends};
 ghost use Rattle.tree_core.specs.Effect.{outcome_of};
@@ -42,13 +42,14 @@ impl<A: Allocator + Copy> Teller<A> {
     {
         Teller {
             rows: ArrayVec::new(),
+            // Memory that each step uses again: what its act is about, and its lines and its story.
             body: Vec::new(alloc),
             scratch: Scratch::new(alloc),
         }
     }
 }
 
-/// Takes the rows of all services, if this is the reply to a scan that was done.
+/// Takes the rows of all services, if this is the reply to a scan that was done: services are named by the rows of the last scan.
 pub fn follow_scan<A: Allocator + Copy>(
     rows: &mut ArrayVec<Row, SERVICE_LIMIT>,
     tree: &Tree<A>,
@@ -62,7 +63,7 @@ pub fn follow_scan<A: Allocator + Copy>(
     }
 }
 
-// Fills the text with what an act is about.
+// Fills the text with what an act is about, where services are named by these rows.
 fn make_body<A: Allocator>(
     body: &mut Vec<u8, A>,
     rows: &ArrayVec<Row, SERVICE_LIMIT>,
@@ -110,7 +111,7 @@ fn make_story<A: Allocator + Copy>(
     Ok(())
 }
 
-// Applies the input that was read, and fills the text with the story of the step.
+// Applies the input that was read to the tree, and fills the text of the scratch with the story of the step.
 fn tell_step<A: Allocator + Copy>(
     tree: &mut Tree<A>,
     teller: &mut Teller<A>,
@@ -163,7 +164,8 @@ fn write_story<A: Allocator, W: Write>(
     }
 }
 
-// Reads the step after `done` others, and tells it. Returns whether there was one.
+// Reads the step after `done` others, tells it, and writes its story. Returns whether there was one. Patterns take their memory from `patterns`,
+// and all else from `alloc`.
 fn tell_next<A: Allocator + Copy, R: BufRead, W: Write>(
     alloc: A,
     patterns: Global,
@@ -198,7 +200,8 @@ fn tell_next<A: Allocator + Copy, R: BufRead, W: Write>(
     }
 }
 
-// Tells the story of a script on a tree that has taken no step.
+// Tells the story of a script on a tree that has taken no step. After as many inputs as a script may have, its end must follow. Patterns take their
+// memory from `patterns`, and all else from `alloc`.
 fn tell_all<A: Allocator + Copy, R: BufRead, W: Write>(
     alloc: A,
     patterns: Global,

@@ -1,4 +1,5 @@
-//! The timeline of a script: a lane for each service name.
+//! The timeline of a script: a lane for each service name. The script is replayed step by step, while a watcher notes what the lanes show; then
+//! the picture is drawn.
 ghost use Rattle.std.specs.Prelude.{◌<◌};
 ghost use Rattle.s6_replay.specs.Script.{input_limit};
 
@@ -30,8 +31,10 @@ impl<A: Allocator + Copy> Watcher<A> {
     fn new(alloc: A) -> Watcher<A> {
         Watcher {
             lanes: TimelineLanes::new(alloc),
+            // The moment of the first step.
             first: None,
             rows: ArrayVec::new(),
+            // Memory that each step uses again.
             scratch: Scratch::new(alloc),
         }
     }
@@ -45,7 +48,7 @@ fn lettered<A: Allocator>(act: &Act<A>) -> Option<Name> {
     }
 }
 
-// Applies the input that was read, and notes what the lanes show after it.
+// Applies the input that was read to the tree, and notes what the lanes show after it.
 fn watch_step<A: Allocator + Copy>(
     alloc: A,
     tree: &mut Tree<A>,
@@ -58,6 +61,7 @@ fn watch_step<A: Allocator + Copy>(
         scratch,
     } = watcher;
     let Scratch { input, effect, .. } = scratch;
+    // Letters may change what a lane shows without an event; the act is read before the step, which takes it.
     let named = lettered(&input.act);
     let Ok(()) = tree.apply_in_place(input, effect) else {
         return Err(ReplayFault::NoMemory);
@@ -65,6 +69,7 @@ fn watch_step<A: Allocator + Copy>(
     if first.is_none() {
         *first = Some(tree.now());
     }
+    // Services are named by the rows of the last scan.
     follow_scan(rows, tree, &effect.reply);
     match lanes.note_step(alloc, tree, rows.as_slice(), effect, named) {
         Ok(()) => Ok(()),
@@ -72,7 +77,8 @@ fn watch_step<A: Allocator + Copy>(
     }
 }
 
-// Reads the step after `done` others, and watches it. Returns whether there was one.
+// Reads the step after `done` others, and watches it: the lanes take in what it changed. Returns whether there was one. Patterns take their memory
+// from `patterns`, and all else from `alloc`.
 fn watch_next<A: Allocator + Copy, R: BufRead>(
     alloc: A,
     patterns: Global,
@@ -93,7 +99,8 @@ fn watch_next<A: Allocator + Copy, R: BufRead>(
     Ok(true)
 }
 
-// Watches the whole of a script on a tree that has taken no step.
+// Watches the whole of a script on a tree that has taken no step. After as many inputs as a script may have, its end must follow. Patterns take
+// their memory from `patterns`, and all else from `alloc`.
 fn watch_all<A: Allocator + Copy, R: BufRead>(
     alloc: A,
     patterns: Global,
@@ -119,7 +126,7 @@ fn longest_name<A: Allocator>(lanes: &[TimelineLane<A>]) -> usize {
     longest
 }
 
-// Draws a lane.
+// Draws a lane, the one at this place from the top. `intervals` is memory for its parts, each of one shade.
 fn draw_lane<A: Allocator, W: Write>(
     writer: &mut W,
     layout: Layout,
@@ -152,7 +159,7 @@ fn draw_lanes<A: Allocator + Copy, W: Write>(
     Ok(())
 }
 
-// Draws what was seen, up to this moment.
+// Draws what was seen, up to this moment: the frame of the picture, the lanes, and its end.
 fn draw_all<A: Allocator + Copy, W: Write>(
     alloc: A,
     writer: &mut W,
@@ -176,7 +183,8 @@ fn draw_all<A: Allocator + Copy, W: Write>(
     }
 }
 
-// Watches a script on a tree that has taken no step, and draws what was seen.
+// Watches a script on a tree that has taken no step, and draws what was seen. Patterns take their memory from `patterns`, and all else from
+// `alloc`.
 fn draw_script<A: Allocator + Copy, R: BufRead, W: Write>(
     alloc: A,
     patterns: Global,

@@ -1,4 +1,4 @@
-//! The history: all moments in order, of which the first ones may be forgotten.
+//! The history: all moments (clock readings, and marks of services) in order, of which the first ones may be forgotten.
 ghost use Rattle.std.specs.Prelude.{◌≡◌, ◌==◌, ◌+◌, ◌-◌, ◌^◌, ◌<◌, ◌≤◌, ◌++◌, ◌∷◌, [], length, drop, vec_len, vec_capacity, IsOk, IfOk, OnOk, OnErr, option_map};
 ghost use Rattle.s6_events.specs.History.{end_of, from_place, forgotten_by};
 
@@ -53,14 +53,16 @@ impl<A: Allocator + Copy> History<A> {
         ensures kept { result.kept ≡ [] }
     {
         History {
+            // How many of the first moments are no longer in `moments`, and how many of those in it are forgotten.
             dropped: 0,
             skipped: 0,
             moments: Vec::new(alloc),
+            // The list of the plan that was committed last, whose memory the next step uses: none yet.
             spare: Vec::new(alloc),
         }
     }
 
-    /// How many moments were pushed, those that are forgotten included.
+    /// How many moments were pushed: those that are forgotten and were dropped from the list `moments` are counted too.
     pub fn len(&self) -> u64
         ensures value { result ≡ end_of self.now }
         ensures bound { result < 2 ^ 63 }
@@ -68,7 +70,8 @@ impl<A: Allocator + Copy> History<A> {
         self.dropped + self.moments.len() as u64
     }
 
-    // How many moments are forgotten: the place of the first one that is not.
+    // How many moments are forgotten, which is the place of the first one that is not. Of these, `dropped` have left the list `moments`, and
+    // `skipped` still stand at its front.
     fn start(&self) -> u64
         ensures value { result ≡ self.now.forgotten }
         ensures bound { result ≤ end_of self.now }
@@ -106,6 +109,7 @@ impl<A: Allocator + Copy> History<A> {
         if place < start {
             return None;
         }
+        // The list still begins with moments that are forgotten (`skipped`).
         let kept = &self.moments[self.skipped..];
         let before = (place - start) as usize;
         if before > kept.len() {
@@ -114,7 +118,8 @@ impl<A: Allocator + Copy> History<A> {
         Some(&kept[before..])
     }
 
-    /// Forgets the moments before `place`, or all of them where `place` is past the end. What is forgotten already stays forgotten.
+    /// Forgets the moments before `place`, or all of them where `place` is past the end. What is forgotten already stays forgotten. Forgotten
+    /// moments are first only counted (`skipped`), and dropped from the list once they are half of it.
     pub fn forget(&mut self, place: u64)
         ensures forgotten { self.new.forgotten ≡ forgotten_by self.old place }
         ensures kept { self.new.kept
@@ -134,7 +139,7 @@ impl<A: Allocator + Copy> History<A> {
         }
     }
 
-    // Drops the forgotten moments from the vector.
+    // Drops the forgotten moments, the first `skipped` of the list, from it. The others are turned to the front, and the end is cut off.
     fn drop_skipped(&mut self)
         ensures forgotten { self.new.forgotten ≡ self.old.forgotten }
         ensures kept { self.new.kept ≡ self.old.kept }
@@ -150,7 +155,7 @@ impl<A: Allocator + Copy> History<A> {
         self.skipped = 0;
     }
 
-    /// An empty list for the moments of the next step. It has the memory of the list that was committed last.
+    /// An empty list for the moments of the next step. It has the memory of the list that was committed last (`spare`).
     pub fn lend(&mut self) -> Vec<Moment, A>
         ensures none { result.items ≡ [] }
         ensures same { self.new ≡ self.old }
@@ -161,8 +166,8 @@ impl<A: Allocator + Copy> History<A> {
         list
     }
 
-    /// Makes room to push these moments, which the plan keeps, and changes nothing else: an earlier plan keeps its room, even where this
-    /// call is refused. `NoMemory` where memory is refused; never where there is no moment to push.
+    /// Makes room to push these moments, which the plan keeps, and changes nothing else: `commit` pushes them. An earlier plan keeps its room, even
+    /// where this call is refused. `NoMemory` where memory is refused; never where there is no moment to push.
     pub fn prepare(&mut self, moments: Vec<Moment, A>) -> Result<HistoryPlan<A>, NoMemory>
         ensures ok { IfOk result (λ plan. plan ≡ moments.items) }
         ensures room { OnOk result (length moments.items ≤ self.new.spare_capacity) }
@@ -184,6 +189,7 @@ impl<A: Allocator + Copy> History<A> {
     {
         // `prepare` made the room, so that this asks for no memory.
         self.moments.extend_from_slice(&plan.moments).unwrap();
+        // The memory of the plan's list is kept for the next step.
         self.spare = plan.moments;
     }
 }

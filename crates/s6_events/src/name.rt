@@ -41,7 +41,7 @@ impl Model for Name {
 }
 
 impl Name {
-    /// The name with these bytes; None where they are no name.
+    /// The name with these bytes; None where they are no name. They are copied to the front of a field of 64 bytes, and the rest of it stays 0.
     pub fn new(text: &[u8]) -> Option<Name>
         ensures { result ≡ (if is_name text.now then Some text.now else None) }
     {
@@ -58,7 +58,7 @@ impl Name {
         })
     }
 
-    // The name `-`, which fills unused places.
+    // The name `-`, which fills the unused places of lists of fixed size.
     #[tactic(auto, unfolding(crate::specs::Name::is_name))]
     fn filler() -> Name {
         let mut bytes = [0; 64];
@@ -152,6 +152,7 @@ impl Hash for Name {
 
 /// What fills the unused places of a list of fixed size.
 impl Default for Name {
+    // What fills the unused places of a list of fixed size: nobody reads it.
     fn default() -> Name {
         Name::filler()
     }

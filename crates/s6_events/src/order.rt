@@ -22,6 +22,7 @@ pub enum Order {
 
 /// What fills the unused places of a list of fixed size.
 impl Default for Order {
+    // What fills the unused places of a list of fixed size: nobody reads it.
     fn default() -> Order {
         Order::KillFinish(Sid(0), 0)
     }

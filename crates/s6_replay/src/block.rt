@@ -1,4 +1,4 @@
-//! The block of a step, which is its part of a transcript: how its text is made, and written whole.
+//! The block of a step, which is its part of a transcript (what the machine answered, a line each): how its text is made, and written whole.
 ghost use Rattle.std.specs.Prelude.{◌≡◌, Err, IfErr, OnOk};
 ghost use Rattle.std.specs.Io.KnownBytes.{Appends};
 ghost use Rattle.s6_replay.specs.Lines.{AppendsFront};
@@ -35,7 +35,7 @@ impl From<AllocError> for WriteFault {
     }
 }
 
-// Fills the text with the block.
+// Fills the text with the block of a step: a line with its number and its reply, then one for each event, order, match and release.
 fn make_block<A: Allocator>(
     number: u64,
     effect: &Effect<A>,
@@ -64,6 +64,7 @@ pub fn write_whole<W: Write>(writer: &mut W, bytes: &[u8]) -> Result<(), WriteFa
     let mut at = 0;
     while at < bytes.len() {
         match writer.write(&bytes[at..]) {
+            // A writer that takes no byte has failed too: else this would go on for ever.
             Err(_) | Ok(0) => return Err(WriteFault::Write),
             Ok(n) => at += n,
         }

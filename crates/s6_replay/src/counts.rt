@@ -1,4 +1,4 @@
-//! What a replay counts.
+//! What a replay counts: inputs read, and the lines of events and orders that it wrote.
 ghost use Rattle.std.specs.Prelude.{◌≡◌, ◌+◌, ◌<◌, ◌^◌};
 
 /// How much a replay read and wrote: the inputs of the script, at most 1,000,000, and the `e` and `o` lines of its transcript. The sums

@@ -1,4 +1,4 @@
-//! The lines of events, orders, matches and releases.
+//! The lines of a transcript for what a step gave: events, orders, matches and releases.
 ghost use Rattle.std.specs.Prelude.{◌≡◌, ◌++◌, ◌∷◌, [], codes, decimal, OnOk};
 ghost use Rattle.std.specs.List.{flat_map};
 ghost use Rattle.s6_replay.specs.Transcript.{event_line, order_line, match_line, release_line, hit_text, verdict_text};
@@ -27,7 +27,7 @@ pub fn push_events<A: Allocator>(text: &mut Vec<u8, A>, events: &[Event]) -> Res
     Ok(())
 }
 
-// Adds an order's word, the serial of its service, and its generation.
+// Adds to the text the beginning of an order's line: `o`, the order's word, the serial of its service, and its generation (the number of the run).
 fn push_run<A: Allocator>(
     text: &mut Vec<u8, A>,
     word: &str,
@@ -44,7 +44,8 @@ fn push_run<A: Allocator>(
     push_spaced(text, generation)
 }
 
-// Adds an order, but for its newline.
+// Adds to the text the line of an order, but for its newline: the words that all orders have, then a descriptor, the arguments of `finish`, or a
+// signal.
 fn push_order<A: Allocator>(text: &mut Vec<u8, A>, order: &Order) -> Result<(), AllocError>
     ensures { OnOk result (text.new.items ++ 10 ∷ [] ≡ text.old.items ++ order_line order.now) }
 {
@@ -96,7 +97,7 @@ fn push_hit<A: Allocator>(text: &mut Vec<u8, A>, hit: Hit) -> Result<(), AllocEr
     }
 }
 
-/// Adds the line of a match, with its newline.
+/// Adds the line of a match, with its newline: `m`, the serial of the subscription, and the letter at which its text matched.
 pub fn push_match<A: Allocator>(text: &mut Vec<u8, A>, found: &Match) -> Result<(), AllocError>
     ensures { OnOk result (text.new.items ≡ text.old.items ++ match_line found.now) }
 {
@@ -131,7 +132,7 @@ fn verdict_bytes(verdict: Verdict) -> &'static str
     }
 }
 
-/// Adds the line of a release, with its newline.
+/// Adds the line of a release, with its newline: `r`, the serial of the waiter, and the word of its verdict (how its wait ended).
 pub fn push_release<A: Allocator>(
     text: &mut Vec<u8, A>,
     release: &Release,

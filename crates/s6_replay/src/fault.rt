@@ -36,7 +36,7 @@ pub enum ReplayFault {
 }
 
 impl ReplayFault {
-    /// The number that stands for the fault, from 1 to 7, in the order of this list.
+    /// The number that stands for the fault, from 1 to 7, in the order of the list of faults.
     pub fn number(&self) -> u8
         ensures { result ≡ number_of self.now }
     {

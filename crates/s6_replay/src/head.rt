@@ -18,6 +18,7 @@ fn read_literal<R: BufRead>(reader: &mut R, text: &[u8]) -> Result<(), ReplayFau
     for want in text {
         match reader.read(&mut byte) {
             Err(_) => return Err(ReplayFault::Read),
+            // The input ended.
             Ok(0) => return Err(ReplayFault::Head),
             Ok(_) => {}
         }
@@ -48,7 +49,8 @@ fn read_version<R: BufRead>(reader: &mut R) -> Result<Version, ReplayFault>
     }
 }
 
-/// Reads the head line of a script. `Head` where the input begins otherwise, `Read` where the reader answered an error.
+/// Reads the head line of a script, `s6-script 1` or `s6-script 2` with its newline, and returns the version. `Head` where the input begins
+/// otherwise, `Read` where the reader answered an error.
 pub fn read_head<R: BufRead>(reader: &mut R) -> Result<Version, ReplayFault>
     ensures ok { IfOk result (λ version. Consumes (R.remaining reader.old) (R.remaining reader.new)
         (head_line version)) }

@@ -40,6 +40,7 @@ pub fn read_line<A: Allocator + Copy, R: BufRead, const LIMIT: usize>(
 {
     line.clear();
     while line.len() < LIMIT {
+        // One byte by `read`, which tells the end of the input; then as many as lie in the reader's buffer.
         if let Some(ended) = read_byte::<A, R, LIMIT>(reader, line)? {
             return Ok(ended);
         }
@@ -103,6 +104,7 @@ fn read_buffered<A: Allocator + Copy, R: BufRead, const LIMIT: usize>(
     let Ok(buffered) = reader.fill_buf() else {
         return Err(ReadFault::Read);
     };
+    // The line may have LIMIT bytes: no more are looked at.
     let room = LIMIT - line.len();
     let within = &buffered[..buffered.len().min(room)];
     let newline = memchr(b'\n', within);
@@ -114,6 +116,7 @@ fn read_buffered<A: Allocator + Copy, R: BufRead, const LIMIT: usize>(
         reader.consume(end);
         return Ok(None);
     }
+    // The newline is taken from the reader too, and is not part of the line.
     reader.consume(end + 1);
     Ok(Some(Ended::Newline))
 }

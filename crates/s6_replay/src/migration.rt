@@ -1,4 +1,4 @@
-//! Migration: makes a recorded script from one without replies.
+//! Migration: makes a recorded script (version 2), in which a reply follows each input, from one of version 1, which has no replies.
 ghost use Rattle.std.specs.Prelude.{◌≡◌, ◌<◌, ◌++◌, ◌∷◌, [], IfOk, IfErr, OnOk};
 ghost use Rattle.s6_script.specs.Spelling.{spelling};
 ghost use Rattle.tree_core.specs.Machine.{new_machine};
@@ -20,7 +20,7 @@ use std::alloc::{AllocError, Allocator, Global};
 use std::io::{BufRead, Write};
 use tree_core::{Effect, Input, Reply, Tree};
 
-// Fills the text with the two lines of a step.
+// Fills the text with the two lines of a step: that of its input, and behind `= ` its reply.
 fn make_step<A: Allocator>(
     line: &[u8],
     reply: &Reply<A>,
@@ -36,7 +36,7 @@ fn make_step<A: Allocator>(
     text.extend_from_slice(b"\n")
 }
 
-// Applies the input of this line, and writes the line and the reply. Returns how many events and orders it gave.
+// Applies the input of this line to the tree, and writes the line and the reply. Returns how many events and orders it gave.
 fn record_input<A: Allocator + Copy, W: Write>(
     tree: &mut Tree<A>,
     effect: &mut Effect<A>,
@@ -70,7 +70,8 @@ fn record_input<A: Allocator + Copy, W: Write>(
     }
 }
 
-// Reads the input after `done` others, applies it, and writes its lines.
+// Reads the input after `done` others, applies it to the tree, and writes its two lines. The scratch has memory that each step uses again. Patterns
+// take their memory from `patterns`, and all else from `alloc`.
 fn record_step<A: Allocator + Copy, R: BufRead, W: Write>(
     alloc: A,
     patterns: Global,
@@ -117,7 +118,8 @@ fn write_head<W: Write>(writer: &mut W) -> Result<(), ReplayFault>
     }
 }
 
-// Migrates a script on a tree that has taken no step.
+// Migrates a script on a tree that has taken no step. After as many inputs as a script may have, its end must follow. Patterns take their memory
+// from `patterns`, and all else from `alloc`.
 fn migrate_all<A: Allocator + Copy, R: BufRead, W: Write>(
     alloc: A,
     patterns: Global,

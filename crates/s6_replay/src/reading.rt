@@ -1,4 +1,4 @@
-//! Reads the lines of a step, and says which fault a line has, and which line it is.
+//! Reads the lines of a step (an input line, and in version 2 its reply line), and says which fault a line has, and which line it is.
 ghost use Rattle.std.specs.Prelude.{◌≡◌, ◌<◌, ◌≤◌, [], IfOk, IfErr, OnOk, IsTrue, Some, None, if◌then◌else◌};
 ghost use Rattle.std.specs.Io.KnownBytes.{Consumes, IsAtEnd};
 ghost use Rattle.s6_script.specs.Spelling.{spelling};
@@ -62,7 +62,7 @@ impl From<ReadFault> for ReplayFault {
     }
 }
 
-// The number of the input line after `done` steps. The head line is line 1.
+// The number of the input line after `done` steps. The head line is line 1; a step has one line in version 1, two in version 2.
 pub fn input_line_number(version: Version, done: u64) -> u64
     requires { done ≤ input_limit }
     ensures { result ≡ input_line_number version done }
@@ -73,7 +73,8 @@ pub fn input_line_number(version: Version, done: u64) -> u64
     }
 }
 
-// Reads the input after `done` steps, and puts it where it is to lie. Whether there was one: not at the end of the script.
+// Reads the input line after `done` steps into `line`, and the input that it spells into `input`; `text` is memory for that. Whether there was one:
+// not at the end of the script. Patterns take their memory from `patterns`, and all else from `alloc`.
 fn read_input<A: Allocator + Copy, R: BufRead>(
     alloc: A,
     patterns: Global,
@@ -93,6 +94,7 @@ fn read_input<A: Allocator + Copy, R: BufRead>(
 {
     match read_line::<A, R, INPUT_LINE_LIMIT>(reader, line)? {
         Ended::TooLong => return Err(ReplayFault::Line(input_line_number(version, done))),
+        // The script ended behind a whole line; below, within this one.
         Ended::End if line.is_empty() => return Ok(false),
         Ended::End => return Err(ReplayFault::Truncated),
         Ended::Newline => {}
@@ -140,8 +142,8 @@ fn read_reply<A: Allocator + Copy, R: BufRead>(
     }
 }
 
-/// Reads the lines of the step after `done` others, and puts its input into the scratch. Whether there was one: not at the end of the
-/// script. The limits and the faults are those of `run`.
+/// Reads the lines of the step after `done` others, and puts its input into the scratch. Whether there was one: not at the end of the script. The
+/// limits and the faults are those of `run`. Patterns take their memory from `patterns`, and all else from `alloc`.
 pub fn read_step<A: Allocator + Copy, R: BufRead>(
     alloc: A,
     patterns: Global,

@@ -82,8 +82,8 @@ pub fn write_input<A: Allocator + Copy, W: Write>(
     Ok(())
 }
 
-/// Writes the text of a reply, without a number or a newline. At `NoMemory` nothing was written, at `Write` not all of it. `Unspelt` never
-/// comes.
+/// Writes the text of a reply, without a newline or what stands before it in a line. At `NoMemory` nothing was written, at `Write` not all of it.
+/// `Unspelt` never comes.
 pub fn write_reply<A: Allocator + Copy, W: Write>(
     alloc: A,
     reply: &Reply<A>,

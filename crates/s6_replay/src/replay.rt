@@ -1,4 +1,4 @@
-//! A replay: from a script to its transcript.
+//! A replay: from a script (inputs, a line each) to its transcript (what the machine answers to each).
 ghost use Rattle.std.specs.Prelude.{IfOk, IfErr};
 ghost use Rattle.tree_core.specs.Machine.{new_machine};
 ghost use Rattle.tree_core.specs.StandsFor.{StandsFor};
@@ -14,7 +14,8 @@ use std::alloc::{Allocator, Global};
 use std::io::{BufRead, Write};
 use tree_core::Tree;
 
-// Replays a script on a tree that has taken no step.
+// Replays a script on a tree that has taken no step: a turn reads one input, applies it, and writes what it gave. After as many inputs as a script
+// may have, its end must follow. Patterns take their memory from `patterns`, and all else from `alloc`.
 fn replay_all<A: Allocator + Copy, R: BufRead, W: Write>(
     alloc: A,
     patterns: Global,

@@ -1,4 +1,4 @@
-//! The text of a reply.
+//! The text of a reply, as a transcript and a recorded script have it.
 ghost use Rattle.std.specs.Prelude.{◌≡◌, ◌++◌, OnOk};
 ghost use Rattle.std.specs.List.{flat_map};
 ghost use Rattle.s6_replay.specs.ReplyText.{reason, dropped_text, listed_text, truth_text, truth_field, number_field, exit_code, signal_number, row_text, end_text, death_text, failure_text, reply_text};
@@ -9,7 +9,7 @@ use std::alloc::{AllocError, Allocator};
 use supervise_core::Row;
 use tree_core::{Listed, Refusal, Reply};
 
-// The word by which a reply says why an act was refused.
+// The word by which a reply says why an act was refused: the name of the reason.
 fn reason_text(refusal: Refusal) -> &'static str
     ensures { result.now ≡ reason refusal }
 {
@@ -86,7 +86,7 @@ fn truth_bytes(truth: bool) -> &'static str
     if truth { "true" } else { "false" }
 }
 
-// Adds a truth value behind a space.
+// Adds to the text a field of a row that is true or false, behind a space.
 fn push_truth<A: Allocator>(text: &mut Vec<u8, A>, truth: bool) -> Result<(), AllocError>
     ensures { OnOk result (text.new.items ≡ text.old.items ++ truth_field truth) }
 {
@@ -94,7 +94,7 @@ fn push_truth<A: Allocator>(text: &mut Vec<u8, A>, truth: bool) -> Result<(), Al
     text.extend_from_slice(truth_bytes(truth).as_bytes())
 }
 
-// Adds a number behind a space, -1 where it is absent.
+// Adds to the text a field of a row that is a number, behind a space: -1 where it is absent.
 fn push_field<A: Allocator>(text: &mut Vec<u8, A>, number: Option<u64>) -> Result<(), AllocError>
     ensures { OnOk result (text.new.items ≡ text.old.items ++ number_field number) }
 {
@@ -131,7 +131,7 @@ fn pid_of(pid: Option<u32>) -> Option<u64>
     pid.map(|pid| pid as u64)
 }
 
-// Adds the fields of a row that are true or false.
+// Adds the five fields of a row that are true or false, in the order of svstat.
 fn push_truths<A: Allocator>(text: &mut Vec<u8, A>, row: &Row) -> Result<(), AllocError>
     ensures { OnOk result (text.new.items ≡ text.old.items
         ++ (truth_field row.now.up ++ truth_field row.now.wanted_up
@@ -145,7 +145,7 @@ fn push_truths<A: Allocator>(text: &mut Vec<u8, A>, row: &Row) -> Result<(), All
     push_truth(text, row.paused)
 }
 
-// Adds the fields of a row that are numbers.
+// Adds the five fields of a row that are numbers, in the order of svstat.
 fn push_numbers<A: Allocator>(text: &mut Vec<u8, A>, row: &Row) -> Result<(), AllocError>
     ensures { OnOk result (text.new.items ≡ text.old.items
         ++ (number_field row.now.pid ++ number_field (exit_code row.now.exit)
@@ -171,7 +171,7 @@ pub fn push_row<A: Allocator>(text: &mut Vec<u8, A>, row: &Row) -> Result<(), Al
     push_numbers(text, row)
 }
 
-// Adds how a run ended.
+// Adds to the text how a run ended: `c` and its exit code, or `s` and the signal that killed it.
 fn push_end<A: Allocator>(text: &mut Vec<u8, A>, exit: Exit) -> Result<(), AllocError>
     ensures { OnOk result (text.new.items ≡ text.old.items ++ end_text exit) }
 {
@@ -187,7 +187,7 @@ fn push_end<A: Allocator>(text: &mut Vec<u8, A>, exit: Exit) -> Result<(), Alloc
     }
 }
 
-// Adds a death, behind a space.
+// Adds a death to the text, behind a space: its moment in milliseconds, a colon, and how the run ended.
 fn push_death<A: Allocator>(text: &mut Vec<u8, A>, death: (At, Exit)) -> Result<(), AllocError>
     ensures { OnOk result (text.new.items ≡ text.old.items ++ death_text death) }
 {
@@ -207,7 +207,7 @@ fn push_deaths<A: Allocator>(text: &mut Vec<u8, A>, deaths: &[(At, Exit)]) -> Re
     Ok(())
 }
 
-// The text of the answer to a permanent failure test.
+// The text of the answer to a permafailon: 125 where the last deaths are a permanent failure, as s6-permafailon exits, else 0.
 fn failure_bytes(fails: bool) -> &'static str
     ensures { result.now ≡ failure_text fails }
 {

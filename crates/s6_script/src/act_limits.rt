@@ -33,7 +33,8 @@ fn is_exit(exit: Exit) -> bool
     }
 }
 
-// Whether a script can spell this item of a list of exits: a code, a range that doesn't fall, or a signal from 1 to 31.
+// Whether a script can spell this item of a list of exits: a code, a range whose end is not below its beginning, or a signal from 1 to 31, which
+// have names.
 fn is_item(item: &DeathItem) -> bool
     ensures { Tells result (IsItem item.now) }
 {
@@ -66,7 +67,7 @@ fn is_death_list(items: &[DeathItem]) -> bool
     are_items(items)
 }
 
-// Whether there is no descriptor, or one that is served.
+// Whether there is no descriptor, or one on which a daemon may say that it is ready: 1, or 3 to 9.
 fn is_descriptor(descriptor: Option<u8>) -> bool
     ensures { Tells result (IfSome descriptor (λ fd. IsTrue (is_served fd))) }
 {
@@ -76,7 +77,7 @@ fn is_descriptor(descriptor: Option<u8>) -> bool
     }
 }
 
-// Whether a number has 32 bits; this one always has.
+// Whether a number of seconds, deaths or milliseconds has 32 bits; this one always has.
 fn is_time(millis: u32) -> bool
     ensures { Tells result (millis ≤ 4294967295) }
 {
@@ -99,7 +100,7 @@ fn is_config(config: &Config) -> bool
     true
 }
 
-// Whether a name is valid; each `Name` is.
+// Whether a name is valid; each `Name` is. The call of `as_bytes` is for the proof: it says of a name's bytes that they are valid.
 fn is_named(name: &Name) -> bool
     ensures { Tells result (IsTrue (is_name name.now)) }
 {
@@ -193,7 +194,7 @@ fn is_target(target: &Target) -> bool
     }
 }
 
-// Whether an act is within the limits of a script.
+// Whether an act is within the limits of a script. Where all of its parts are valid by their types, the call of a part's function is for the proof.
 fn is_within<A: Allocator>(act: &PlainAct<A>) -> bool
     ensures { Tells result (IsAct (act_of act.now)) }
 {
@@ -236,7 +237,7 @@ fn is_within<A: Allocator>(act: &PlainAct<A>) -> bool
     }
 }
 
-// Whether a moment is valid; each `At` is.
+// Whether a moment is valid; each `At` is. The call of `millis` is for the proof: it says that a moment is within its limit.
 fn is_moment(at: At) -> bool
     ensures { Tells result (at ≤ last_moment) }
 {
@@ -244,7 +245,7 @@ fn is_moment(at: At) -> bool
     true
 }
 
-// Whether an actor is valid; each `Actor` is.
+// Whether an actor is valid; each `Actor` is. The call of `number` is for the proof: it says that an actor's number is at most 15.
 fn is_actor(actor: Actor) -> bool
     ensures { Tells result (actor ≤ 15) }
 {

@@ -1,4 +1,4 @@
-//! The list of exits of a `permafailon`, in a script: reading it, and its spelling.
+//! The list of exits of a `permafailon`, in a script: reading it, and its spelling (the words by which a script writes it).
 ghost use Rattle.std.specs.Prelude.{◌≡◌, ◌++◌, ◌∷◌, [], unwrap_or, decimal, map, codes, IfOk, OnOk};
 ghost use Rattle.std.specs.List.{flat_map, join_with_byte};
 ghost use Rattle.servicedir.specs.SignalName.{name_of_signal};
@@ -42,7 +42,7 @@ fn name_or_nothing(signal: u8) -> &'static str
     signal_name(signal).unwrap_or("")
 }
 
-// Adds an item.
+// Adds an item of the list to the text: a code, as `7`, a range of codes, as `1-2`, or a signal, as `SIGTERM`.
 fn push_item<A: Allocator>(text: &mut Vec<u8, A>, item: &DeathItem) -> Result<(), AllocError>
     ensures { OnOk result (text.new.items ≡ text.old.items ++ item_text item.now) }
 {
@@ -60,7 +60,7 @@ fn push_item<A: Allocator>(text: &mut Vec<u8, A>, item: &DeathItem) -> Result<()
     }
 }
 
-// Adds more items, each behind a comma.
+// Adds more items of the list to the text, each behind a comma.
 fn push_more_items<A: Allocator>(
     text: &mut Vec<u8, A>,
     items: &[DeathItem],
@@ -75,7 +75,7 @@ fn push_more_items<A: Allocator>(
     Ok(())
 }
 
-// Adds a list.
+// Adds a list of exits to the text: its items, with a comma between two.
 fn push_items<A: Allocator>(text: &mut Vec<u8, A>, items: &[DeathItem]) -> Result<(), AllocError>
     ensures { OnOk result (text.new.items ≡ text.old.items ++ list_text items.now) }
 {
@@ -86,7 +86,7 @@ fn push_items<A: Allocator>(text: &mut Vec<u8, A>, items: &[DeathItem]) -> Resul
     Ok(())
 }
 
-/// Adds the words of a permafailon.
+/// Adds the words of a permafailon to the text: its verb, the name, the seconds, the count, and the list of exits.
 pub fn push_permafailon<A: Allocator>(
     text: &mut Vec<u8, A>,
     name: &Name,
@@ -101,7 +101,7 @@ pub fn push_permafailon<A: Allocator>(
     push_permafailon_of(text, name, seconds, count, list.items())
 }
 
-// Adds the words of a permafailon of these items.
+// Adds the words of a permafailon to the text: its verb, the name, the seconds, the count, and the list of exits with these items.
 pub fn push_permafailon_of<A: Allocator>(
     text: &mut Vec<u8, A>,
     name: &Name,

@@ -20,7 +20,7 @@ pub fn push_spaced<A: Allocator>(text: &mut Vec<u8, A>, number: u64) -> Result<(
     push_number(text, number)
 }
 
-// Adds a word behind a space.
+// Adds a space and a word to a text.
 pub fn push_word<A: Allocator>(text: &mut Vec<u8, A>, word: &[u8]) -> Result<(), AllocError>
     ensures { OnOk result (text.new.items ≡ text.old.items ++ 32 ∷ word.now) }
 {

@@ -1,5 +1,5 @@
-//! The entries of a scan: which settings of a configuration aren't at their defaults, how an entry is spelled, and how it is read.
-//! `parse.rt` refuses any other spelling of an entry, since it spells each input again and compares.
+//! The entries of a scan, in a script: a name, and options, which are the settings of its configuration that aren't at their defaults. A word that
+//! is no entry gives some entry: `parse.rt` then refuses the line, since it spells each input again and compares.
 ghost use Rattle.std.specs.Prelude.{◌≡◌, ◌≢◌, ◌++◌, ◌∷◌, ℕ, ◌+◌, ◌≤◌, List, length, map, codes, decimal, IsTrue, IfOk, OnOk, MatchOption, All};
 ghost use Rattle.std.specs.List.{slice_split, flat_map};
 ghost use Rattle.servicedir.specs.Config.{is_served};
@@ -53,7 +53,7 @@ pub fn set(config: &mut Config, setting: Setting)
     }
 }
 
-// Adds the setting if `so`.
+// Adds the setting to the list if `so`: where the configuration isn't at its default.
 fn add_where(list: &mut Settings, so: bool, setting: Setting)
     requires { length list.old.items ≤ 6 }
     ensures items { list.new.items ≡ list.old.items ++ where_so so setting }
@@ -68,6 +68,7 @@ fn add_where(list: &mut Settings, so: bool, setting: Setting)
 pub fn settings_of(config: &Config) -> Settings
     ensures { result.items ≡ settings config.now }
 {
+    // A configuration in which all is at its default.
     let plain = Config::plain();
     let mut list = Settings::new();
     add_where(&mut list, config.down, Setting::Down);
@@ -98,7 +99,7 @@ pub fn settings_of(config: &Config) -> Settings
     list
 }
 
-// Adds an option of this key and value.
+// Adds to the text an option of this key and value.
 fn push_value<A: Allocator>(text: &mut Vec<u8, A>, key: &str, value: u64) -> Result<(), AllocError>
     ensures { OnOk result (text.new.items ≡ text.old.items ++ (key.now ++ decimal value)) }
 {
@@ -106,7 +107,7 @@ fn push_value<A: Allocator>(text: &mut Vec<u8, A>, key: &str, value: u64) -> Res
     push_number(text, value)
 }
 
-// Adds the option that spells a setting.
+// Adds to the text the option that spells a setting.
 fn push_option<A: Allocator>(text: &mut Vec<u8, A>, setting: Setting) -> Result<(), AllocError>
     ensures { OnOk result (text.new.items ≡ text.old.items ++ option_word setting) }
 {
@@ -121,7 +122,7 @@ fn push_option<A: Allocator>(text: &mut Vec<u8, A>, setting: Setting) -> Result<
     }
 }
 
-// Adds the options, a colon before the first and a comma before each further one.
+// Adds the options to the text, a colon before the first and a comma before each further one.
 fn push_options<A: Allocator>(text: &mut Vec<u8, A>, settings: &[Setting]) -> Result<(), AllocError>
     ensures { OnOk result (text.new.items
         ≡ text.old.items ++ behind_name (map option_word settings.now)) }
@@ -135,7 +136,7 @@ fn push_options<A: Allocator>(text: &mut Vec<u8, A>, settings: &[Setting]) -> Re
     Ok(())
 }
 
-// Adds the options of the configuration, or `!` where none was read.
+// Adds to the text the options of the configuration, or `!` where none could be read of the directory.
 fn push_config<A: Allocator>(
     text: &mut Vec<u8, A>,
     config: &Option<Config>,
@@ -149,7 +150,7 @@ fn push_config<A: Allocator>(
     Ok(())
 }
 
-// Adds the entry.
+// Adds the entry to the text: its name, and right behind it its options or `!`.
 fn push_entry<A: Allocator>(text: &mut Vec<u8, A>, entry: &Entry) -> Result<(), AllocError>
     ensures { OnOk result (text.new.items ≡ text.old.items ++ entry_text entry.now) }
 {
@@ -157,7 +158,7 @@ fn push_entry<A: Allocator>(text: &mut Vec<u8, A>, entry: &Entry) -> Result<(), 
     push_config(text, &entry.config)
 }
 
-// Adds each entry behind a space.
+// Adds each entry to the text, behind a space.
 pub fn push_entries<A: Allocator>(
     text: &mut Vec<u8, A>,
     entries: &[Entry],
@@ -180,7 +181,7 @@ fn value_of<'a>(word: &'a [u8], key: &[u8]) -> Option<&'a [u8]>
     word.strip_prefix(key)
 }
 
-// Reads a descriptor.
+// Reads a descriptor on which a service may say that it is ready: 1, or 3 to 9.
 fn descriptor_of(word: &[u8]) -> u8
     ensures spelled { (n : ℕ) → IsTrue (is_served n) → word.now ≡ decimal n → result ≡ n }
     ensures fits { IsTrue (is_served result) }
@@ -202,14 +203,14 @@ fn signal_of(word: &[u8]) -> u8
     number(word, 64).max(1) as u8
 }
 
-// Reads a number of milliseconds.
+// Reads a number of milliseconds, of at most 32 bits.
 fn millis_of(word: &[u8]) -> u32
     ensures spelled { (n : ℕ) → n ≤ 4294967295 → word.now ≡ decimal n → result ≡ n }
 {
     number(word, u64::from(u32::MAX)) as u32
 }
 
-// Reads an option.
+// Reads an option of an entry: its key tells which setting it is, and what stands behind the key is the value.
 fn setting_of(word: &[u8]) -> Setting
     ensures spelled { (s : Setting) → IsSetting s → word.now ≡ option_word s → result ≡ s }
     ensures fits { IsSetting result }
@@ -232,7 +233,7 @@ fn setting_of(word: &[u8]) -> Setting
     }
 }
 
-// Reads the options of an entry.
+// Reads the options of an entry: each changes one setting of a plain configuration.
 fn config_of(options: &[&[u8]]) -> Config
     ensures spelled { (c : Config) → IsConfig c → map (λ w. w.now) options.now ≡ option_words c
         → result ≡ c }
@@ -245,7 +246,7 @@ fn config_of(options: &[&[u8]]) -> Config
     config
 }
 
-// The parts of an entry: its name, and its options.
+// The parts of an entry: its name, and its options. The name ends with a colon, each option but the last with a comma.
 fn parts_of<A: Allocator + Copy>(alloc: A, word: &[u8]) -> Result<Vec<&[u8], A>, AllocError>
     ensures { IfOk result (λ parts. map (λ w. w.now) parts.items ≡ slice_split ends_part word.now) }
 {
@@ -260,7 +261,7 @@ fn unread_name(word: &[u8]) -> Option<&[u8]>
     word.strip_suffix(b"!")
 }
 
-// Reads an entry.
+// Reads an entry: a name with `!` behind it, where its directory couldn't be read, or with the options of its configuration.
 fn entry_of<A: Allocator + Copy>(alloc: A, word: &[u8]) -> Result<Entry, AllocError>
     ensures spelled { IfOk result
         (λ found. (e : Entry) → IsEntry e → word.now ≡ entry_text e → found ≡ e) }
@@ -273,6 +274,7 @@ fn entry_of<A: Allocator + Copy>(alloc: A, word: &[u8]) -> Result<Entry, AllocEr
         });
     }
     let parts = parts_of(alloc, word)?;
+    // The first part is the name; the parts from place 1 on are the options.
     let name = name_of(word_at(parts.as_slice(), 0));
     let config = config_of(words_from(parts.as_slice(), 1));
     Ok(Entry {
@@ -281,7 +283,7 @@ fn entry_of<A: Allocator + Copy>(alloc: A, word: &[u8]) -> Result<Entry, AllocEr
     })
 }
 
-// Reads entries.
+// Reads entries, one for each word that is left.
 pub fn entries_of<A: Allocator + Copy>(
     alloc: A,
     words: &mut Words<'_>,

@@ -1,8 +1,8 @@
-//! Reads an act, and an input line, which is a moment, an actor and an act. A start, a death and a tick are read word for word (`reports.rt`).
-//! For other acts, each function that reads a part, here, in `words.rt` and in `entry_options.rt`, gives the value that its words spell, and
-//! for words that spell none any value of its type. The act that comes of this is spelled again, and returned only where the spelling equals
-//! the words that were read. So no function has to look for words that spell no act. A pattern is built last, so a line is refused for its
-//! pattern only where it spells an act otherwise.
+//! Reads an act, and an input line, which is a moment, an actor and an act. In a line, a start, a death and a tick are read word for word
+//! (`reports.rt`). For all other acts, and all that `parse_act` reads, each function that reads a part, here, in `words.rt` and in
+//! `entry_options.rt`, gives the value that its words spell, and for words that spell none any value of its type. The act that comes of this is
+//! spelled again, and returned only where the spelling equals the words that were read. So no function has to look for words that spell no act. A
+//! pattern is built last, so a line is refused for its pattern only where it spells an act otherwise.
 ghost use Rattle.std.specs.Prelude.{◌≡◌, ℕ, ◌≤◌, ◌<◌, ◌^◌, ◌-◌, ◌∷◌, ◌++◌, [], List, Bool, Err, IfOk, OnOk, Some, IfSome, true, decimal, drop, map, length, slice_index_or};
 ghost use Rattle.hex.specs.Hex.{IsBytes, encode_lower};
 ghost use Rattle.s6_script.specs.Spelling.{HasExpression, IsExit, IsAct, SpellsAct, SpellsActButForPattern, act_words};
@@ -87,7 +87,8 @@ pub enum Verb {
     Tick,
 }
 
-// Reads an exit. Its first word is `code` or `signal`; the length of the word says which.
+// Reads an exit. Its first word is `code` or `signal`; the length of the word (4 for `code`) says which. Words that spell none give some exit, with
+// which the line is refused later.
 fn exit_of(words: &mut Words<'_>) -> Exit
     ensures spelled { (e : Exit) → IsExit e → words.old ≡ exit_words e → result ≡ e }
     ensures fits { IsExit result }
@@ -161,7 +162,7 @@ fn verb_of(word: &[u8]) -> Verb
     }
 }
 
-// Reads the letter of an order to all services.
+// Reads the letter of an order to all services: n, or t. Any other word gives that of t, and is refused later.
 fn order_of(word: &[u8]) -> ScanOrder
     ensures { (order : ScanOrder) → word.now ≡ order_word order → result ≡ order }
 {
@@ -172,7 +173,7 @@ fn order_of(word: &[u8]) -> ScanOrder
     }
 }
 
-// Reads a process number.
+// Reads a process number, from 1 to 2147483647; a word that spells none gives some number, with which the line is refused later.
 fn process_of(word: &[u8]) -> u32
     ensures spelled { (n : ℕ) → 1 ≤ n → n ≤ 2147483647 → word.now ≡ decimal n → result ≡ n }
     ensures low { 1 ≤ result }
@@ -181,14 +182,14 @@ fn process_of(word: &[u8]) -> u32
     number(word, 2_147_483_647).max(1) as u32
 }
 
-// Reads a serial or a generation.
+// Reads a serial or a generation; a word that spells none gives some number, with which the line is refused later.
 fn serial_of(word: &[u8]) -> u64
     ensures { (n : ℕ) → n < 2 ^ 64 → word.now ≡ decimal n → result ≡ n }
 {
     number(word, u64::MAX)
 }
 
-// Reads the serial of a service and a generation.
+// Reads what names a run: the serial of its service, and its generation (the number of its start).
 fn run_of(words: &mut Words<'_>) -> (Sid, u64)
     ensures sid { (n : ℕ) → n < 2 ^ 64 → slice_index_or words.old 0 [] ≡ decimal n → result.0 ≡ n }
     ensures generation { (n : ℕ) → n < 2 ^ 64 → slice_index_or words.old 1 [] ≡ decimal n
@@ -215,7 +216,7 @@ fn add_letter(letters: &mut Letters, byte: u8)
     }
 }
 
-// Reads letters: 1 to 63, whatever the word is.
+// Reads control letters: 1 to 63, whatever the word is. One that spells no such letters is refused later.
 fn letters_of(word: &[u8]) -> Letters
     ensures spelled { (letters : List ControlLetter) → 1 ≤ length letters → length letters ≤ 63
         → word.now ≡ map byte_of letters → result.items ≡ letters }
@@ -260,7 +261,7 @@ fn bytes_of(word: &[u8]) -> ArrayVec<u8, 64>
     bytes
 }
 
-// Reads an act from its verb and the words behind it.
+// Reads an act from its verb and the words behind it; a report here, any other act but a tick by `request_of`.
 fn act_of<A: Allocator + Copy>(
     alloc: A,
     verb: Verb,
@@ -297,7 +298,8 @@ fn act_of<A: Allocator + Copy>(
     Ok(UnbuiltAct::Whole(act))
 }
 
-// Reads an act that is asked for. It is not inlined: else reading each line would fill a place for each of these acts.
+// Reads an act that is asked for (no report, no tick) from its verb and the words behind it. It is not inlined: else reading each line would fill a
+// place for each of these acts.
 #[inline(never)]
 fn request_of<A: Allocator + Copy>(
     alloc: A,
@@ -328,7 +330,7 @@ fn request_of<A: Allocator + Copy>(
     Ok(UnbuiltAct::Whole(act))
 }
 
-// Reads an act from its words.
+// Reads an act from its words: any act, where they spell none. The pattern of a subscription is not built yet.
 fn read_act<A: Allocator + Copy>(alloc: A, words: &mut Words<'_>) -> Result<UnbuiltAct<A>, NoMemory>
     ensures spelled { IfOk result (λ found. (act : Act A) → IsAct act → words.old ≡ act_words act
         → act_read found ≡ act) }
@@ -357,7 +359,8 @@ pub fn parse_act<A: Allocator + Copy>(
     parse_other(alloc, patterns, words, &mut text)
 }
 
-// `parse_act`, with a text of the caller in which the act is spelled again. It is not inlined, since most acts are read word for word.
+// The act that the words spell: they are read, the act is spelled again into `text`, and where that equals the words, its pattern is built, with
+// memory from `patterns`. It is not inlined, since most acts are read word for word.
 #[inline(never)]
 fn parse_other<A: Allocator + Copy>(
     alloc: A,
@@ -380,7 +383,8 @@ fn parse_other<A: Allocator + Copy>(
     }
 }
 
-// `parse_act`, which puts the act where it is to lie; on error nothing is said of what lies there.
+// Puts the act that the words spell where it is to lie: a start, a death or a tick is read word for word, any other act is read by its parts,
+// spelled again and compared (`parse_other`). On error nothing is said of what lies there.
 fn parse_act_into<A: Allocator + Copy>(
     alloc: A,
     patterns: Global,
@@ -406,7 +410,7 @@ fn parse_act_into<A: Allocator + Copy>(
     }
 }
 
-// Takes a moment; None where the next word spells none.
+// Takes a moment, of at most 10^15 milliseconds; None where the next word spells none.
 fn take_moment(words: &mut Words<'_>) -> Option<At>
     ensures spelled { (n : ℕ) → n ≤ last_moment → slice_index_or words.old 0 [] ≡ decimal n
         → result ≡ Some n }
@@ -416,7 +420,7 @@ fn take_moment(words: &mut Words<'_>) -> Option<At>
     At::new(take_number(words, 1_000_000_000_000_000)?)
 }
 
-// Takes an actor; None where the next word spells none.
+// Takes an actor, a number from 0 to 15; None where the next word spells none.
 fn take_actor(words: &mut Words<'_>) -> Option<Actor>
     ensures spelled { (n : ℕ) → n ≤ 15 → slice_index_or words.old 0 [] ≡ decimal n
         → result ≡ Some n }

@@ -1,4 +1,4 @@
-//! The spelling of an input that is plain data.
+//! The spelling of an input that is plain data: the line by which a script writes it.
 ghost use Rattle.std.specs.Prelude.{◌≡◌, ◌++◌, IfOk, OnOk};
 ghost use Rattle.tree_core.specs.Plain.{act_of};
 ghost use Rattle.s6_script.specs.Spelling.{act_spelling, spelling};
@@ -16,7 +16,7 @@ use super::waiting::push_wait;
 use std::alloc::{AllocError, Allocator};
 use tree_core::{PlainAct, PlainInput, ScanOrder};
 
-// Adds the words of an act.
+// Adds the words of an act to the text: its verb, and what it asks or reports.
 fn push_plain_act<A: Allocator + Copy>(
     alloc: A,
     text: &mut Vec<u8, A>,
@@ -61,7 +61,7 @@ fn push_plain_act<A: Allocator + Copy>(
     }
 }
 
-// Makes the text the words of an input, whether it is within the limits or not.
+// Makes the text the words of an input (its moment, its actor, its act), whether it is within the limits of a script or not.
 #[tactic(auto, using(crate::proofs::Joined::join_act))]
 fn join<A: Allocator + Copy>(
     alloc: A,

@@ -1,4 +1,5 @@
-//! Reads the acts that come most often, a start, a death and a tick, word for word: what is read of them needn't be spelled again.
+//! Reads the acts that come most often, a start, a death and a tick, word for word: what is read of them needn't be spelled again and compared,
+//! as `parse.rt` does with other acts.
 ghost use Rattle.std.specs.Prelude.{◌≡◌, ◌<◌, ◌≤◌, ◌^◌, ◌∷◌, ◌++◌, ℕ, List, [], Some, true, IfSome, IsSome, IsTrue, OnSome, decimal};
 ghost use Rattle.s6_script.specs.Spelling.{act_words, HasExpression, IsAct, IsExit, SpellsAct};
 ghost use Rattle.s6_script.specs.Verb.{details, exit_words, verb_of_act, verb_word};
@@ -10,7 +11,7 @@ use s6_events::{Exit, Sid};
 use std::alloc::Allocator;
 use tree_core::Act;
 
-// Takes the serial of a service and a generation; None where the next words spell none.
+// Takes what names a run: the serial of its service, and its generation (the number of its start). None where the next words spell none.
 fn take_life(words: &mut Words<'_>) -> Option<(Sid, u64)>
     ensures only { IfSome result (λ life. (life.0 < 2 ^ 64) × (life.1 < 2 ^ 64)
         × (words.old ≡ decimal life.0 ∷ decimal life.1 ∷ words.new)) }
@@ -52,6 +53,7 @@ fn take_started<A: Allocator>(words: &mut Words<'_>, act: &mut Act<A>) -> Option
 {
     let (sid, generation) = take_life(words)?;
     let pid = take_number(words, 2_147_483_647)?;
+    // Process numbers count from 1.
     if pid == 0 {
         return None;
     }
@@ -106,6 +108,7 @@ pub fn read_report<A: Allocator>(text: &[u8], act: &mut Act<A>) -> bool
 {
     let mut words = Words::of(text);
     match take_report(&mut words, act) {
+        // Where words are left, the text spells another act or none.
         Some(()) => !words.has_more(),
         None => false,
     }

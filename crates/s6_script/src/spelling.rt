@@ -1,4 +1,4 @@
-//! The spelling of an act.
+//! The spelling of an act: the words by which a script writes it. Each function adds words to the end of a text.
 ghost use Rattle.std.specs.Prelude.{◌≡◌, ◌++◌, ◌∷◌, [], map, codes, decimal, OnOk};
 ghost use Rattle.std.specs.List.{join_with_byte};
 ghost use Rattle.hex.specs.Hex.{encode_lower};
@@ -32,7 +32,7 @@ pub fn push_letters<A: Allocator>(
     Ok(())
 }
 
-// Adds the words of an exit.
+// Adds the words of an exit to the text: `code` and the exit code, or `signal` and the number of the signal.
 fn push_exit<A: Allocator>(text: &mut Vec<u8, A>, exit: Exit) -> Result<(), AllocError>
     ensures { OnOk result (text.new.items ≡ text.old.items ++ join_with_byte 32 (exit_words exit)) }
 {
@@ -48,7 +48,7 @@ fn push_exit<A: Allocator>(text: &mut Vec<u8, A>, exit: Exit) -> Result<(), Allo
     }
 }
 
-// Adds the words of a scan.
+// Adds the words of a scan to the text: its verb and the entries of its listing.
 pub(crate) fn push_scan<A: Allocator>(
     text: &mut Vec<u8, A>,
     entries: &[Entry],
@@ -76,7 +76,7 @@ pub fn push_svc<A: Allocator>(
     push_letters(text, letters)
 }
 
-// Adds the words of a notification.
+// Adds the words of a notification to the text: those of a report, and its bytes as hexadecimal digits.
 pub(crate) fn push_notify<A: Allocator + Copy>(
     alloc: A,
     text: &mut Vec<u8, A>,
@@ -118,7 +118,7 @@ pub(crate) fn push_serial<A: Allocator>(
     push_spaced(text, serial)
 }
 
-// Adds the words of a report of a run.
+// Adds the words of a report of a run to the text: a verb, the serial of the service, and the generation (the number of the run).
 pub(crate) fn push_report<A: Allocator>(
     text: &mut Vec<u8, A>,
     verb: &str,
@@ -132,7 +132,7 @@ pub(crate) fn push_report<A: Allocator>(
     push_spaced(text, generation)
 }
 
-// Adds the words of a run that was spawned.
+// Adds the words of a run that was spawned to the text: those of a report, and the process number.
 pub(crate) fn push_started<A: Allocator>(
     text: &mut Vec<u8, A>,
     sid: Sid,
@@ -146,7 +146,7 @@ pub(crate) fn push_started<A: Allocator>(
     push_spaced(text, u64::from(pid))
 }
 
-// Adds the words of the end of a `run` or a `finish`.
+// Adds the words of the end of a `run` or a `finish` to the text: those of a report, with the verb `death` or `finished`, and the exit.
 pub(crate) fn push_ended<A: Allocator>(
     text: &mut Vec<u8, A>,
     verb: &str,
@@ -204,7 +204,7 @@ pub fn push_act<A: Allocator + Copy>(
     }
 }
 
-// Makes the text the spelling of an act that was read.
+// Makes the text the spelling of an act that was read. The pattern of a subscription, which isn't built yet, is spelled by its text.
 pub fn spell_read<A: Allocator + Copy>(
     alloc: A,
     text: &mut Vec<u8, A>,

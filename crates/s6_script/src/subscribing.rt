@@ -1,4 +1,5 @@
-//! Subscriptions and messages for event directories, in a script: reading them, and their spelling.
+//! Subscriptions and messages for event directories, in a script: reading them, and their spelling. A word that spells none gives some value, with
+//! which the line is refused later (`parse.rt`).
 ghost use Rattle.std.specs.Prelude.{◌≡◌, ◌++◌, ◌∷◌, [], List, ℕ, Bool, true, IsTrue, codes, drop, slice_index_or, string_bytes, IfOk, OnOk};
 ghost use Rattle.std.specs.List.{join_with_byte};
 ghost use Rattle.event_directory.specs.Message.{is_message};
@@ -35,14 +36,14 @@ fn target_of(words: &mut Words<'_>) -> Target
     }
 }
 
-// Reads whether a subscription goes on after a match.
+// Reads whether a subscription goes on after a match: `repeat`. Any other word than `once` is refused later.
 fn repeats_of(word: &[u8]) -> bool
     ensures { (repeats : Bool) → word.now ≡ how_word repeats → result ≡ repeats }
 {
     is_word(word, b"repeat")
 }
 
-// Reads the text of a pattern; an empty one where the bytes are no UTF-8.
+// Reads the text of a pattern; an empty one where the bytes are no UTF-8, which is refused later.
 fn pattern_text<A: Allocator + Copy>(alloc: A, bytes: &[u8]) -> Result<String<A>, AllocError>
     ensures { IfOk result (λ found. IsTrue (is_pattern_text bytes.now)
         → string_bytes found ≡ bytes.now) }
@@ -117,7 +118,7 @@ fn how_bytes(repeats: bool) -> &'static str
     if repeats { "repeat" } else { "once" }
 }
 
-// Adds the words of a target, each behind a space.
+// Adds to the text the words for an event directory, each behind a space: its kind and its name.
 fn push_target<A: Allocator>(text: &mut Vec<u8, A>, target: &Target) -> Result<(), AllocError>
     ensures { OnOk result (text.new.items
         ≡ text.old.items ++ 32 ∷ (target_word target.now ++ 32 ∷ target_name target.now)) }
@@ -126,7 +127,7 @@ fn push_target<A: Allocator>(text: &mut Vec<u8, A>, target: &Target) -> Result<(
     push_word(text, name_in(target).as_bytes())
 }
 
-/// Adds the words of a subscription to this pattern.
+/// Adds the words of a subscription to the text: its verb, the event directory, `once` or `repeat`, and the pattern.
 pub fn push_subscribe<A: Allocator>(
     text: &mut Vec<u8, A>,
     target: &Target,
@@ -144,7 +145,7 @@ pub fn push_subscribe<A: Allocator>(
     Ok(())
 }
 
-/// Adds the words of a message to be sent.
+/// Adds the words of a message to be sent to the text: its verb, the event directory, and its letters.
 pub fn push_send<A: Allocator>(
     text: &mut Vec<u8, A>,
     target: &Target,
@@ -156,7 +157,7 @@ pub fn push_send<A: Allocator>(
     push_send_of(text, target, message.as_bytes())
 }
 
-// Adds the words of a message of these letters.
+// Adds the words of a message of these letters to the text: its verb, the event directory (`target`), and the letters.
 pub fn push_send_of<A: Allocator>(
     text: &mut Vec<u8, A>,
     target: &Target,

@@ -1,4 +1,4 @@
-//! What was read from the words of an act, and building its pattern.
+//! What was read from the words of an act, where the pattern of a subscription isn't built yet, and building that pattern.
 ghost use Rattle.std.specs.Prelude.{◌≡◌, ◌≢◌, ◌↔◌, Err, IfOk, IsErrOf, IsTrue, false};
 ghost use Rattle.event_directory.specs.Pattern.{is_expression, is_pattern_text};
 ghost use Rattle.s6_script.specs.Spelling.{HasExpression, IsAct, IsSubscription};
@@ -17,7 +17,7 @@ pub enum UnbuiltAct<A: Allocator> {
     Subscribe(Target, String<A>, bool),
 }
 
-// Builds a pattern. `Line` where the text is not one of 1 to 256 bytes between a space and a tilde.
+// Builds a pattern, with memory from `patterns`. `Line` where the text is not one of 1 to 256 bytes between a space and a tilde.
 fn build_pattern(patterns: Global, text: &str) -> Result<Pattern, LineFault>
     ensures ok { IfOk result (λ pattern. pattern ≡ text.now) }
     ensures expression { IfOk result (λ _. IsTrue (is_expression text.now)) }
@@ -29,7 +29,7 @@ fn build_pattern(patterns: Global, text: &str) -> Result<Pattern, LineFault>
     }
 }
 
-// What is wrong with a line whose pattern was not built.
+// What is wrong with a line whose pattern was not built: a text of a length or with a byte that no pattern has is no part of any input.
 fn line_fault_of(fault: PatternFault) -> LineFault
     ensures { result ≡ pattern_line_fault fault }
 {
@@ -40,7 +40,8 @@ fn line_fault_of(fault: PatternFault) -> LineFault
     }
 }
 
-// Builds the pattern of an act that has one to be built. `Line` where its text is not one of 1 to 256 bytes between a space and a tilde.
+// Builds the pattern of an act that has one to be built, with memory from `patterns`; any other act is whole. `Line` where the pattern's text is
+// not one of 1 to 256 bytes between a space and a tilde.
 pub fn build_act<A: Allocator>(patterns: Global, act: UnbuiltAct<A>) -> Result<Act<A>, LineFault>
     ensures ok { IfOk result (λ built. built ≡ act_read act) }
     ensures expression { FitsButText act → IfOk result HasExpression }

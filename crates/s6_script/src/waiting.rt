@@ -44,7 +44,7 @@ fn mode_of(word: &[u8]) -> Mode
     }
 }
 
-// Reads names.
+// Reads names, one for each word that is left.
 fn names_of<A: Allocator + Copy>(
     alloc: A,
     words: &mut Words<'_>,
@@ -98,7 +98,7 @@ fn mode_bytes(mode: Mode) -> &'static str
     }
 }
 
-// Adds names, each behind a space.
+// Adds names to the text, each behind a space.
 fn push_names<A: Allocator>(text: &mut Vec<u8, A>, names: &[Name]) -> Result<(), AllocError>
     ensures { OnOk result (text.new.items
         ≡ text.old.items ++ flat_map (λ name. 32 ∷ name) names.now) }
@@ -109,7 +109,7 @@ fn push_names<A: Allocator>(text: &mut Vec<u8, A>, names: &[Name]) -> Result<(),
     Ok(())
 }
 
-/// Adds the words of a wait.
+/// Adds the words of a wait to the text: its verb, the letters of its condition and its mode, the timeout, and the names.
 pub fn push_wait<A: Allocator>(
     text: &mut Vec<u8, A>,
     condition: Condition,

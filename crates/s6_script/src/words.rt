@@ -1,4 +1,5 @@
-//! The words of a line, and reading single words.
+//! The words of a line, and reading single words. Some functions give any value for a word that spells none: `parse.rt` spells what was read again,
+//! and refuses the line where that differs.
 ghost use Rattle.std.specs.Prelude.{◌≡◌, ℕ, ◌≤◌, ◌<◌, ◌^◌, nat_lt, [], ◌∷◌, decimal, length, map, bytes_eq, drop, take, get_or, slice_index_or, true, false, Some, IfSome};
 ghost use Rattle.std.specs.List.{join_with_byte, list_all};
 ghost use Rattle.s6_events.specs.Name.{is_name};
@@ -30,7 +31,7 @@ impl<'a> Model for Words<'a> {
 }
 
 impl<'a> Words<'a> {
-    // All words of a line.
+    // All words of a line. Even an empty line has one: a word of no byte.
     pub fn of(line: &'a [u8]) -> Words<'a>
         ensures { result ≡ text_words line.now }
     {
@@ -57,6 +58,7 @@ impl<'a> Words<'a> {
         }
         let line = self.rest;
         match memchr(b' ', line) {
+            // No space is left: this is the last word.
             None => {
                 self.more = false;
                 line
@@ -68,7 +70,7 @@ impl<'a> Words<'a> {
         }
     }
 
-    // What is left of the line.
+    // What is left of the line; nothing where no word is left.
     pub fn rest(&self) -> &'a [u8]
         ensures { result.now ≡ join_with_byte 32 self.now }
     {
@@ -97,7 +99,8 @@ pub fn words_from<'a, 'b>(words: &'b [&'a [u8]], place: usize) -> &'b [&'a [u8]]
     }
 }
 
-// Reads a number that is at most `most`. A word that spells no such number is not refused: it gives some number up to `most`.
+// Reads a number that is at most `most`. A word that spells no such number is not refused here: it gives some number up to `most`, with which the
+// line is refused later.
 pub fn number(word: &[u8], most: u64) -> u64
     ensures spelled { (n : ℕ) → n ≤ most → word.now ≡ decimal n → result ≡ n }
     ensures fits { result ≤ most }
@@ -178,6 +181,7 @@ pub fn take_number(words: &mut Words<'_>, most: u64) -> Option<u64>
         return None;
     }
     match line.get(count) {
+        // The line ends here, or a space follows; behind the digits of a number stands nothing else.
         None => words.more = false,
         Some(b' ') => words.rest = &line[count + 1..],
         Some(_) => return None,
@@ -185,7 +189,7 @@ pub fn take_number(words: &mut Words<'_>, most: u64) -> Option<u64>
     Some(value)
 }
 
-// Reads a number of 32 bits: of seconds, deaths or milliseconds.
+// Reads a number of 32 bits: of seconds, deaths or milliseconds. A word that spells none gives some number, with which the line is refused later.
 pub fn count_of(word: &[u8]) -> u32
     ensures spelled { (n : ℕ) → n ≤ 4294967295 → word.now ≡ decimal n → result ≡ n }
     ensures fits { result ≤ 4294967295 }

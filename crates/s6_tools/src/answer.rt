@@ -1,4 +1,4 @@
-//! Reads a line of the server. The lines are this program's own, not those of s6.
+//! Reads a line of the server, whose words are counted from 0. The lines are this program's own, not those of s6.
 ghost use Rattle.std.specs.Prelude.{◌≡◌};
 ghost use Rattle.s6_tools.specs.Answers.{is_done, kind_of, outcome_of, release_of, match_of, failure_of, answer_of};
 

@@ -1,4 +1,4 @@
-//! A tool's connection to the server of a tree.
+//! A tool's connection to the server of a tree. A busy server has no seat for one more, and is asked again as long as the tool's patience lasts.
 use crate::answer::{Answer, read_answer};
 use crate::list_entry::{ListEntry, entry_of, moment_of};
 use crate::patience::{Patience, TRY_TIME};
@@ -66,6 +66,7 @@ pub fn ask_once<R: Net>(
     request: &[u8],
 ) -> Result<(ToolConnection, Answer), ToolFault> {
     let mut connection = ToolConnection::open(rt, alloc, path)?;
+    // A refusal by the server is a fault.
     let answer = connection.ask(request)?;
     Ok((connection, answer))
 }
@@ -93,6 +94,7 @@ impl ToolConnection {
     /// request may have been sent or not.
     pub fn ask(&mut self, request: &[u8]) -> Result<Answer, ToolFault> {
         let sent = self.send(request)?;
+        // Whatever came of the write, the server may have answered.
         let answer = self.answer();
         match answer {
             // The server may have written this and ended the connection before it read the whole request.
@@ -156,6 +158,7 @@ impl ToolConnection {
 
     /// Asks for the clock, and returns the time of day at which the tree's clock was 0, in milliseconds since 1970.
     pub fn ask_clock(&mut self) -> Result<u64, ToolFault> {
+        // The answer is a line `clock SINCE NOW`, whose words are counted from 0.
         let _clock = self.ask(b"clock")?;
         moment_of(word_or_none(self.line.as_slice(), 1)).ok_or(ToolFault::Socket)
     }
@@ -177,7 +180,7 @@ impl ToolConnection {
         Err(ToolFault::Socket)
     }
 
-    // Reads the next line, without its newline.
+    // Reads the next line, without its newline. Where the last byte is no newline, the connection has ended.
     fn read_line(&mut self) -> Result<(), ToolFault> {
         self.line.clear();
         self.reader.read_until(b'\n', &mut self.line)?;
@@ -193,7 +196,7 @@ impl ToolConnection {
     }
 }
 
-// Adds one more entry to those that were read of the reply to `states`; NoMemory where memory is refused.
+// Adds one more entry, a service or a directory, to those that were read of the reply to `states`; NoMemory where memory is refused.
 fn push_entry(entries: &mut Vec<ListEntry>, entry: ListEntry) -> Result<(), ToolFault> {
     entries.push(entry).map_err(|_| ToolFault::NoMemory)
 }

@@ -1,4 +1,5 @@
-//! Finds the wrong word of a command line.
+//! Finds the wrong word of a command line. A clue says where to look: at a place, or for the first, second or only word of a kind (`Wrong`).
+//! Places are counted from 0, behind the socket's path. Two clues are tried, one after the other.
 ghost use Rattle.std.specs.Prelude.{◌≡◌, ◌<◌, ◌≤◌, IfSome, codes, length, map, option_map, position, slice_get};
 ghost use Rattle.std.specs.List.{find};
 ghost use Rattle.std.specs.Str.{bytes_eq};
@@ -47,7 +48,7 @@ fn first_wrong<'a>(words: &'a [&'a str], wrong: Wrong) -> Option<&'a str>
         .find(|word| is_wrong(wrong, word.as_bytes()))
 }
 
-// The place of the first word of this kind.
+// The place of the first word of this kind, counted from 0.
 fn place_of(words: &[&str], wrong: Wrong) -> Option<usize>
     ensures place { result ≡ position (λ w. is_wrong wrong w.now) words.now }
     ensures bound { IfSome result (λ place. place < length words.now) }
@@ -91,7 +92,7 @@ fn only_wrong<'a>(words: &'a [&'a str], wrong: Wrong) -> Option<&'a str>
     }
 }
 
-// The word that a clue leads to.
+// The word that a clue leads to: at a place, of a kind, or behind the first of a kind. Behind that one the second of its kind is looked for too.
 fn seen_by<'a>(clue: Clue, words: &'a [&'a str]) -> Option<&'a str>
     ensures { option_map (λ w. w.now) result ≡ seen_by clue (map (λ w. w.now) words.entry.now) }
 {
@@ -116,7 +117,7 @@ fn strange_of(tool: Tool) -> Wrong
     }
 }
 
-// Where to look for another word that the tool doesn't take: a dash alone, or a word behind those that it takes.
+// Where to look for another word that the tool doesn't take, if no option is the wrong one: a dash alone, or a word behind those that it takes.
 fn spare_of(tool: Tool) -> Clue
     ensures { result ≡ spare_of tool }
 {
@@ -186,7 +187,7 @@ fn name_clues(tool: Tool) -> (Clue, Clue)
     }
 }
 
-// Where to look for the wrong word, and where else.
+// Where to look for the wrong word, and where else, by what is wrong with the words (`misuse`). A missing word can't be found.
 fn clues_of(tool: Tool, misuse: Misuse) -> (Clue, Clue)
     ensures { result ≡ clues_of tool misuse }
 {

@@ -1,4 +1,4 @@
-//! `mkfifodir`, `ftrig-notify` and `ftrig-wait`.
+//! `mkfifodir`, `ftrig-notify` and `ftrig-wait`: the tools for event directories, in which letters are heard. A free one belongs to no service.
 ghost use Rattle.std.specs.Prelude.{◌≡◌, All, IfOk, IsOk, OnOk, nat_lt, option_map, true, if◌then◌else◌};
 ghost use Rattle.event_directory.specs.Pattern.{is_expression};
 ghost use Rattle.s6_tools.specs.declared.misuse.Misuse.TheVariants as misuse;
@@ -92,6 +92,7 @@ pub fn run_mkfifodir<R: Net + Clock>(
         return Err(ToolFault::Usage(misuse_of(words.len(), 1)));
     };
     let request = make_directory_request(alloc, &name_of(name)?)?;
+    // A refusal is a fault. Any other answer counts as done.
     ask_server(rt, alloc, socket, request.as_slice())?;
     Ok(0)
 }
@@ -109,6 +110,7 @@ pub fn run_ftrig_notify<R: Net + Clock>(
     let target = read_target(target)?;
     let message = Message::new(message.as_bytes()).ok_or(ToolFault::Usage(Misuse::BadMessage))?;
     let request = send_request(alloc, &target, &message)?;
+    // A refusal is a fault. Any other answer counts as done.
     ask_server(rt, alloc, socket, request.as_slice())?;
     Ok(0)
 }
@@ -128,8 +130,10 @@ pub fn run_ftrig_wait<R: Net + Clock, W: Write>(
     let (target, pattern) = (read_target(target)?, read_pattern(pattern)?);
     try_pattern(alloc, pattern)?;
     let request = subscribe_request(alloc, &target, pattern)?;
+    // While the server is busy it is asked again, without end.
     let mut patience = Patience::of(None);
     let asked = ask_within(rt, alloc, socket, request.as_slice(), &mut patience)?;
+    // Any other answer is none that a server gives to this request.
     let (mut connection, Answer::Subscription) = asked else {
         return Err(ToolFault::Socket);
     };
@@ -140,6 +144,7 @@ pub fn run_ftrig_wait<R: Net + Clock, W: Write>(
             }
             Ok(0)
         }
+        // Too many letters came without a match.
         Answer::Overlong => Ok(1),
         _ => Err(ToolFault::Socket),
     }

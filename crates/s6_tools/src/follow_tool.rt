@@ -1,4 +1,4 @@
-//! `follow` and `record`.
+//! `follow`, which prints letters (what happened to a service, as `u` for up) as they come, and `record`, which has the server write its record.
 use crate::connection::{ToolConnection, ask_server, await_room};
 use crate::followed_letter::{FollowedLetter, letter_line, letter_of};
 use crate::list_command::{ListCommand, compile_list, is_among};
@@ -22,9 +22,11 @@ pub fn run_follow<R: Net + Clock, W: Write>(
     output: &mut W,
 ) -> Result<u8, ToolFault> {
     let command = compile_list(alloc, words)?;
+    // `start` is the time of day at which the tree's clock was 0.
     let (mut connection, start) = follow(rt, alloc, socket, &command)?;
     for _ in 0..u64::MAX {
         connection.next_line()?;
+        // Other lines, as empty ones, are passed over.
         if let Some(letter) = letter_of(connection.line()) {
             print_letter(alloc, &letter, start, &command, output)?;
         }
@@ -41,6 +43,7 @@ fn follow<R: Net + Clock>(
     socket: &str,
     command: &ListCommand,
 ) -> Result<(ToolConnection, u64), ToolFault> {
+    // It goes on trying without end.
     let mut patience = Patience::of(None);
     for _ in 0..u64::MAX {
         match follow_once(rt, alloc, socket, command) {
@@ -63,11 +66,12 @@ fn follow_once<R: Net>(
     let mut connection = ToolConnection::open(rt, alloc, socket)?;
     let start = connection.ask_clock()?;
     let request = follow_request(alloc, command.names.as_slice())?;
+    // A refusal is a fault.
     let _done = connection.ask(request.as_slice())?;
     Ok((connection, start))
 }
 
-// Prints a letter in one write, if its service is asked for.
+// Prints a letter in one write, if its service is asked for. `start` is the time of day at which the tree's clock was 0.
 fn print_letter<W: Write>(
     alloc: Global,
     letter: &FollowedLetter,
@@ -76,6 +80,7 @@ fn print_letter<W: Write>(
     output: &mut W,
 ) -> Result<(), ToolFault> {
     let names = command.names.as_slice();
+    // Without names all services are asked for.
     if !names.is_empty() && !is_among(names, &letter.name) {
         return Ok(());
     }
@@ -99,6 +104,7 @@ pub fn run_record<R: Net + Clock, W: Write>(
     if !words.is_empty() {
         return Err(ToolFault::Usage(Misuse::TooMany));
     }
+    // The last line that was read is the server's `recorded N`, which is printed as it came.
     let (connection, _recorded) = ask_server(rt, alloc, socket, b"record")?;
     let mut line = Vec::new(alloc);
     line.extend_from_slice(connection.line())?;

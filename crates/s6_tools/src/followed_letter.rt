@@ -20,7 +20,7 @@ pub struct FollowedLetter {
     pub letter: u8,
 }
 
-/// The letter of an `e` line, without its newline; None for any other line.
+/// The letter of a line `e AT SERIAL NAME LETTER`, without its newline; None for any other line. The words are counted from 0.
 pub fn letter_of(line: &[u8]) -> Option<FollowedLetter> {
     if !is_word(word_or_none(line, 0), b"e") {
         return None;
@@ -30,6 +30,7 @@ pub fn letter_of(line: &[u8]) -> Option<FollowedLetter> {
     };
     Some(FollowedLetter {
         at: moment_of(word_or_none(line, 1))?,
+        // `moment_of` reads any number.
         serial: moment_of(word_or_none(line, 2))?,
         name: Name::new(word_or_none(line, 3))?,
         letter: *letter,
@@ -64,7 +65,7 @@ fn push_plain(text: &mut Vec<u8>, day: &[u8], letter: &FollowedLetter) -> Result
     text.extend_from_slice(b"\n")
 }
 
-// Adds a further member: a text.
+// Adds a further member of the object: a key, and a text in quotes.
 fn push_text(text: &mut Vec<u8>, key: &[u8], word: &[u8]) -> Result<(), AllocError>
     ensures { OnOk result (text.new.items ≡ text.old.items ++ member key.now (quoted word.now)) }
 {
@@ -73,7 +74,7 @@ fn push_text(text: &mut Vec<u8>, key: &[u8], word: &[u8]) -> Result<(), AllocErr
     push_quoted(text, word)
 }
 
-// Adds the first members of the object.
+// Adds the first members of the object: the time of day, the tree's clock then, and the serial of the service.
 fn push_json_head(text: &mut Vec<u8>, day: &[u8], letter: &FollowedLetter) -> Result<(), AllocError>
     ensures { OnOk result (text.new.items ≡ text.old.items ++ json_head day.now letter.now) }
 {
@@ -83,7 +84,7 @@ fn push_json_head(text: &mut Vec<u8>, day: &[u8], letter: &FollowedLetter) -> Re
     push_member(text, b"serial", Some(letter.serial))
 }
 
-// Adds the other members.
+// Adds the other members of the object: the name of the service, the letter, and what it says in a word.
 fn push_json_tail(text: &mut Vec<u8>, letter: &FollowedLetter) -> Result<(), AllocError>
     ensures { OnOk result (text.new.items ≡ text.old.items ++ json_tail letter.now) }
 {
@@ -92,7 +93,7 @@ fn push_json_tail(text: &mut Vec<u8>, letter: &FollowedLetter) -> Result<(), All
     push_text(text, b"event", letter_word(letter.letter))
 }
 
-// The line of JSON.
+// Adds the line of a letter as one object of JSON: its braces, and the members between them.
 #[tactic(auto, unfolding(crate::specs::Letters::json_letter))]
 fn push_json(text: &mut Vec<u8>, day: &[u8], letter: &FollowedLetter) -> Result<(), AllocError>
     ensures { OnOk result (text.new.items ≡ text.old.items ++ json_letter day.now letter.now) }

@@ -1,4 +1,4 @@
-//! The services as lines of JSON.
+//! The services as lines of JSON, one object a line. A directory that the last scan could not read (unread) has the same members, most of them null.
 ghost use Rattle.std.specs.Prelude.{◌≡◌, ◌++◌, ◌∷◌, IfOk, OnOk, option_map};
 ghost use Rattle.std.specs.List.{flat_map};
 ghost use Rattle.s6_tools.specs.JsonLines.{truth_text, number_text, key_text, quoted, truth_member, number_member, exit_code, signal_number, head_text, truths_text, run_text, ages_text, word_text, times_text, end_text, service_line, unread_head, null_truths_text, null_run_text, null_ages_text, null_times_text, unread_line, json_line};
@@ -56,7 +56,7 @@ pub fn push_key(text: &mut Vec<u8>, key: &[u8]) -> Result<(), AllocError>
     text.extend_from_slice(b":")
 }
 
-// Adds a further member: a truth value.
+// Adds a further member of an object: a key and `true` or `false`.
 fn push_truth(text: &mut Vec<u8>, key: &[u8], truth: bool) -> Result<(), AllocError>
     ensures { OnOk result (text.new.items ≡ text.old.items ++ truth_member key.now truth) }
 {
@@ -66,7 +66,7 @@ fn push_truth(text: &mut Vec<u8>, key: &[u8], truth: bool) -> Result<(), AllocEr
     text.extend_from_slice(word)
 }
 
-/// Adds a further member: a number, or null where there is none.
+/// Adds a further member of an object: a key and a number, or null where there is none.
 pub fn push_member(text: &mut Vec<u8>, key: &[u8], number: Option<u64>) -> Result<(), AllocError>
     ensures { OnOk result (text.new.items ≡ text.old.items ++ number_member key.now number) }
 {
@@ -78,7 +78,7 @@ pub fn push_member(text: &mut Vec<u8>, key: &[u8], number: Option<u64>) -> Resul
     }
 }
 
-// Adds the first three members.
+// Adds the first three members of the object: the name, the serial and the state of the service.
 fn push_head(text: &mut Vec<u8>, service: &ListedService) -> Result<(), AllocError>
     ensures { OnOk result (text.new.items ≡ text.old.items ++ head_text service.now) }
 {
@@ -101,7 +101,7 @@ fn push_truths(text: &mut Vec<u8>, row: &Row) -> Result<(), AllocError>
     push_truth(text, b"paused", row.paused)
 }
 
-// Adds the members for its run.
+// Adds the members for its run: the process number while it is up, and how the last run ended.
 fn push_run(text: &mut Vec<u8>, row: &Row) -> Result<(), AllocError>
     ensures { OnOk result (text.new.items ≡ text.old.items ++ run_text row.now) }
 {
@@ -110,7 +110,7 @@ fn push_run(text: &mut Vec<u8>, row: &Row) -> Result<(), AllocError>
     push_member(text, b"signal", signal_number(row.exit))
 }
 
-// Adds the members for its ages.
+// Adds the members for its ages: for how long it has been up or down, and for how long ready.
 fn push_ages(text: &mut Vec<u8>, row: &Row) -> Result<(), AllocError>
     ensures { OnOk result (text.new.items ≡ text.old.items ++ ages_text row.now) }
 {
@@ -150,7 +150,7 @@ fn push_end(text: &mut Vec<u8>, fault: Option<&ToldWord>) -> Result<(), AllocErr
     text.extend_from_slice(b"}\n")
 }
 
-// Adds the line of a service.
+// Adds the line of a service, one object. No fault is in it: its directory could be read.
 #[tactic(auto, unfolding(crate::specs::JsonLines::service_line))]
 fn push_service_line(text: &mut Vec<u8>, service: &ListedService) -> Result<(), AllocError>
     ensures { OnOk result (text.new.items ≡ text.old.items ++ service_line service.now) }
@@ -163,7 +163,7 @@ fn push_service_line(text: &mut Vec<u8>, service: &ListedService) -> Result<(), 
     push_end(text, None)
 }
 
-// Adds the first three members of a directory that could not be read.
+// Adds the first three members of the object of a directory that could not be read: it has no serial, and its state is `unread`.
 fn push_unread_head(text: &mut Vec<u8>, name: &Name) -> Result<(), AllocError>
     ensures { OnOk result (text.new.items ≡ text.old.items ++ unread_head name.now) }
 {

@@ -1,4 +1,4 @@
-//! `svc` and `svscanctl`.
+//! `svc`, which sends letters to a service, as `u` to start it, and `svscanctl`, which sends them to the supervisor of the scan directory.
 use crate::connection::ask_server;
 use crate::request::{scan_request, svc_request};
 use crate::tool_fault::ToolFault;
@@ -16,6 +16,7 @@ pub fn run_svc<R: Net + Clock>(
 ) -> Result<u8, ToolFault> {
     let command = compile_svc(words)?;
     let request = svc_request(alloc, &command)?;
+    // A refusal is a fault. Any other answer counts as done.
     ask_server(rt, alloc, socket, request.as_slice())?;
     Ok(0)
 }

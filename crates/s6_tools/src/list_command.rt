@@ -1,4 +1,4 @@
-//! The words of `list` and `follow`.
+//! The words of `list` and `follow`, and which entries they ask for: an entry is a service, or a directory that the last scan could not read.
 ghost use Rattle.std.specs.Prelude.{◌≡◌, filter};
 ghost use Rattle.s6_tools.specs.Listing.{is_among, is_asked, is_there, are_there};
 

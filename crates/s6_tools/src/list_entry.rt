@@ -75,10 +75,12 @@ pub fn entry_of(line: &[u8]) -> Option<ListEntry>
     }
 }
 
-// The service that a line `state WORD SINCE row ..` tells of; None where what stands behind SINCE can't be read as a `row` line.
+// The service that a line `state WORD SINCE row ..` tells of; None where what stands behind SINCE can't be read as a `row` line. The words are
+// counted from 0, and the time of day (`since`) is filled in later.
 fn service_of(line: &[u8]) -> Option<ListEntry>
     ensures { IfSome result (λ entry. Tells entry line.now) }
 {
+    // The `row` line stands behind the first three words.
     let row = row_of(behind_word(behind_word(behind_word(line))))?;
     Some(ListEntry::Service(ListedService {
         state: ToldWord::new(word_or_none(line, 1)),

@@ -1,4 +1,4 @@
-//! `list`.
+//! `list`, which prints entries: the states of services, and the directories that the last scan could not read.
 ghost use Rattle.std.specs.Prelude.{◌≡◌, IfOk};
 ghost use Rattle.s6_tools.specs.Listing.{listed_text};
 
@@ -55,6 +55,7 @@ pub fn ask_states_once<R: Net>(
     socket: &str,
 ) -> Result<Vec<ListEntry>, ToolFault> {
     let mut connection = ToolConnection::open(rt, alloc, socket)?;
+    // The time of day at which the tree's clock was 0.
     let start = connection.ask_clock()?;
     // The answer to `clock` ends with an empty line.
     connection.next_line()?;
@@ -92,6 +93,7 @@ fn print_entries<W: Write>(
     if output.write_all(text.as_slice()).is_err() || output.flush().is_err() {
         return Err(ToolFault::Write);
     }
+    // A name of which there is no entry is refused, after the others are printed.
     if are_there(entries.as_slice(), names) {
         Ok(0)
     } else {

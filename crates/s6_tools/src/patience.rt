@@ -1,4 +1,4 @@
-//! How long a tool goes on trying where the server has no room for it.
+//! How long a tool goes on trying where the server has no room for it: between two tries it makes a pause, which grows. Times are in milliseconds.
 ghost use Rattle.std.specs.Prelude.{◌≡◌, is_none};
 ghost use Rattle.s6_tools.specs.Patience.{first_pause, time_of_wait, timeout_within, pause_of, after_pause};
 
@@ -53,7 +53,7 @@ impl Patience {
         }
     }
 
-    /// Whether no time is left.
+    /// Whether no time is left. Where there is no end, some always is.
     pub fn is_over(&self) -> bool
         ensures { result ≡ is_none (pause_of self.now) }
     {
@@ -66,6 +66,7 @@ impl Patience {
         ensures after { self.new ≡ after_pause self.old }
     {
         let pause = match self.left {
+            // The next pause is twice as long, up to the longest.
             None => self.pause,
             Some(0) => return None,
             Some(left) => self.pause.min(left),

@@ -1,4 +1,4 @@
-//! The requests of the tools. Most are a line of a script without its moment and its actor, and ask for the act that this line spells;
+//! The requests of the tools: most spell an act, as a line of a script does behind its moment and its actor.
 //! `scanctl a` and `follow` are no acts, and only the server knows them.
 ghost use Rattle.std.specs.Prelude.{◌≡◌, ◌++◌, ◌∷◌, [], IfOk, OnOk, false};
 ghost use Rattle.std.specs.List.{join_with_byte};
@@ -120,6 +120,7 @@ pub fn subscribe_request(
         (λ text. text.items ≡ request_of (Subscribe target.now pattern.now false)) }
 {
     let mut text = Vec::new(alloc);
+    // `false`: it ends with its first match.
     push_subscribe(&mut text, target, pattern, false)?;
     Ok(text)
 }

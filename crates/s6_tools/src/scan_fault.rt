@@ -46,6 +46,7 @@ fn ask_why_unread<R: Net>(
     if !is_no_service(fault) {
         return None;
     }
+    // What the server tells of all services, and of the directories that the last scan could not read.
     let entries = ask_states_once(rt, alloc, socket).ok()?;
     for entry in entries.as_slice() {
         if let Some(why) = why_unread(entry, name) {

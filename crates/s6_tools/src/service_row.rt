@@ -1,4 +1,4 @@
-//! Reads a `row` line of the server.
+//! Reads a `row` line, the status of a service. Its words are counted from 0: `row`, the serial, the name, and then the fields.
 ghost use Rattle.std.specs.Prelude.{◌≡◌, ◌≤◌, IfSome};
 ghost use Rattle.s6_tools.specs.ServiceRows.{truth_of, number_of, number_in, truths_in, numbers_in, row_of, exit_in, sid_in};
 
@@ -66,7 +66,8 @@ fn number_in(line: &[u8], place: usize) -> Option<Option<u32>>
     number_of(word_or_none(line, place), MOST_NUMBER)
 }
 
-// How a run ended: its code or its signal, or neither. None where both are there, or one of them can't be read.
+// How a run ended, by the words 9 and 10 of a `row` line, the exit code and the signal: its code or its signal, or neither. None where both are
+// there, or one of them can't be read.
 fn exit_in(line: &[u8]) -> Option<Option<Exit>>
     ensures { result ≡ exit_in line.now }
 {

@@ -1,4 +1,4 @@
-//! The line of `svstat`.
+//! The line of `svstat`: fields of a `row` reply, which is the server's line about the status of a service.
 ghost use Rattle.std.specs.Prelude.{◌≡◌, ◌∷◌, ◌++◌, IfOk, OnOk};
 ghost use Rattle.std.specs.List.{flat_map};
 ghost use Rattle.s6_tools.specs.StatusLine.{field_in, place_of, status_line};

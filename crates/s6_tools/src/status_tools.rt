@@ -1,4 +1,4 @@
-//! `svstat` and `permafailon`.
+//! `svstat`, which prints fields of a service's status, and `permafailon`, which tells whether a service fails for good.
 use crate::answer::Answer;
 use crate::connection::ask_server;
 use crate::request::{permafailon_request, status_request};
@@ -24,9 +24,11 @@ pub fn run_svstat<R: Net + Clock, W: Write>(
     let command = compile_svstat(alloc, words)?;
     let request = status_request(alloc, &command.name)?;
     let (connection, answer) = ask_server(rt, alloc, socket, request.as_slice())?;
+    // Any other answer is none that a server gives to this request.
     if !matches!(answer, Answer::Row) {
         return Err(ToolFault::Socket);
     }
+    // The connection's last line is the answer, the row of the service.
     let mut line = svstat_line(alloc, connection.line(), command.fields.as_slice())?;
     line.extend_from_slice(b"\n")?;
     if output.write_all(line.as_slice()).is_err() || output.flush().is_err() {
@@ -48,6 +50,7 @@ pub fn run_permafailon<R: Net + Clock>(
     match answer {
         Answer::PermanentFailure(true) => Ok(PERMANENT_FAILURE),
         Answer::PermanentFailure(false) => Ok(0),
+        // No server gives another answer to this request.
         _ => Err(ToolFault::Socket),
     }
 }

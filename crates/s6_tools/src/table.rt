@@ -1,4 +1,4 @@
-//! The services as a table.
+//! The services as a table. An entry, a line of it, is a service, or a directory that the last scan could not read (unread).
 ghost use Rattle.std.specs.Prelude.{◌≡◌, ◌++◌, ◌∷◌, IfOk, OnOk, None, map, option_map, replicate, if◌then◌else◌};
 ghost use Rattle.std.specs.List.{flat_map};
 ghost use Rattle.s6_tools.specs.Tables.{heading, cell, service_cell, unread_cell, word_cell, number_cell, age_cell, exit_cell, wanted_cell, width_of, padded, heading_line, row_line, sized_column, padded_columns, table_text};
@@ -152,7 +152,7 @@ fn push_service_cell(
     }
 }
 
-// Adds the cell of a directory that could not be read.
+// Adds the cell of a directory that could not be read: its state is `unread`, its fault stands under LAST-EXIT, and most cells are `-`.
 fn push_unread_cell(
     text: &mut Vec<u8>,
     name: &Name,

@@ -1,4 +1,4 @@
-//! The text about a fault, and the words in it.
+//! The text about a fault (`told`), in an array of fixed size, and the words in it.
 ghost use Rattle.std.specs.Prelude.{◌≡◌, ◌++◌, ◌<◌, OnOk, option_map, take};
 ghost use Rattle.std.specs.List.{flat_map};
 ghost use Rattle.s6_tools.specs.Told.{hex_digit, escaped_byte, escaped, named};

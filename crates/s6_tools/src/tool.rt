@@ -109,6 +109,7 @@ pub fn run_client<R: Net + Processes + Clock, W: Write, E: Write>(
                 // Not even a socket was named: the fault is `Missing`.
                 [] => ("", words),
             };
+            // A refusal for want of a service is told more exactly where the last scan could not read the service's directory.
             let fault = with_scan_fault(rt, alloc, socket, subject_of(tool, further), fault);
             tell_fault(tool, socket, further, &fault, errors)
         }

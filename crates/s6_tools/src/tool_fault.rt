@@ -55,6 +55,7 @@ impl From<UsageFault> for ToolFault {
 
     ghost from_gives = { λ usage fault. fault ≡ fault_of_usage usage };
 
+    // The fault for wrong words, as the reader of the words (`svc_commands`) names it.
     fn from(usage: UsageFault) -> ToolFault {
         match usage {
             UsageFault::Unknown => ToolFault::Usage(Misuse::Unknown),
@@ -69,6 +70,7 @@ impl From<UsageFault> for ToolFault {
 }
 
 impl From<AllocError> for ToolFault {
+    // Where memory is refused, the tool fails for that reason.
     fn from(_refused: AllocError) -> ToolFault {
         ToolFault::NoMemory
     }

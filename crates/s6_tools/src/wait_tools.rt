@@ -1,4 +1,4 @@
-//! `svwait` and `svlisten`.
+//! `svwait` and `svlisten`, which wait for services: the server makes a waiter, and tells when it is released, with the outcome.
 ghost use Rattle.std.specs.Prelude.{◌≡◌};
 ghost use Rattle.s6_tools.specs.Endings.{status_of_outcome};
 
@@ -26,7 +26,8 @@ fn status_of(outcome: Outcome) -> u8
     }
 }
 
-// Makes a waiter, and returns once the reply has come. None where the time was up before the server had room for it.
+// Has the server make a waiter, and returns once its reply has come. While the server has no room for it, it is asked again, with what is left of
+// the timeout. None where the time was up before.
 fn subscribe<R: Net + Clock>(
     rt: &R,
     alloc: Global,
@@ -39,6 +40,7 @@ fn subscribe<R: Net + Clock>(
         let request = wait_request(alloc, command)?;
         match ask_once(rt, alloc, socket, request.as_slice()) {
             Ok((connection, Answer::Waiter)) => return Ok(Some(connection)),
+            // No server gives another answer to this request.
             Ok(_) => return Err(ToolFault::Socket),
             Err(fault) if fault.is_busy() && patience.is_over() => return Ok(None),
             Err(fault) => await_room(rt, fault, &mut patience)?,
@@ -80,6 +82,7 @@ pub fn run_svlisten<R: Net + Processes + Clock>(
     words: &[&str],
 ) -> Result<u8, ToolFault> {
     let mut command = compile_svlisten(alloc, words)?;
+    // The waiter is there before the program starts, so nothing that the program does is missed.
     let Some(mut connection) = subscribe(rt, alloc, socket, &mut command.wait)? else {
         return Ok(status_of(Outcome::TimedOut));
     };

@@ -1,4 +1,4 @@
-//! The kinds of words by which the wrong word of a command line is found.
+//! The kinds of words by which the wrong word of a command line is found, to be told to people.
 ghost use Rattle.std.specs.Prelude.{◌≡◌, ◌==◌};
 ghost use Rattle.std.specs.List.{list_any};
 ghost use Rattle.s6_tools.specs.WrongWords.{letters_of, valued_of, is_dashed, has_strange_letter, is_strange, is_list_option, is_no_name, is_condition, is_mode, is_ended, is_valued, is_wrong};

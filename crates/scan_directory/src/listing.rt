@@ -1,4 +1,4 @@
-//! Reading a scan directory.
+//! Reading a scan directory: each entry whose name is a service's is listed. What is wrong in its directory is a remark, and told on `errors`.
 ghost use Rattle.std.specs.Prelude.{◌≡◌, ◌++◌, IfOk, OnOk, option_to_list};
 ghost use Rattle.std.specs.Char.Escape.{escape_ascii};
 ghost use Rattle.std.specs.List.{flat_map};
@@ -68,12 +68,14 @@ fn listing_of(alloc: Global, entries: Vec<Entry>) -> io::Result<Listing<Global>>
     let Some(at) = At::new(LAST_MOMENT) else {
         return Err(ErrorKind::InvalidData.into());
     };
+    // The last moment takes the most bytes of a line.
     let scan = PlainInput {
         actor,
         at,
         act: PlainAct::Scan(entries),
     };
     let mut nowhere = io::sink();
+    // The text goes nowhere: only whether it can be spelled counts.
     let spelt = write_input(alloc, &scan, &mut nowhere);
     match spelt {
         Ok(()) => {}
@@ -81,6 +83,7 @@ fn listing_of(alloc: Global, entries: Vec<Entry>) -> io::Result<Listing<Global>>
         // It is `Unspelt`: `io::sink` takes every write, so `Write` never comes.
         Err(_) => return Err(ErrorKind::InvalidData.into()),
     }
+    // The entries are taken out of the scan again.
     let PlainInput { act, .. } = scan;
     match act {
         PlainAct::Scan(entries) => Ok(Listing::new(entries)),
@@ -98,6 +101,7 @@ fn read_entries<R: Files + Copy + Drop, E: Write>(
 ) -> io::Result<ReadEntries> {
     // With the slash at the end, a link to a directory is followed.
     let path = format!(in alloc; "{directory}/")?;
+    // The names of the entries, each with a 0 byte behind it.
     let names = BufReader::new(alloc, rt.open_dir(path.as_str())?)?;
     read_names(rt, alloc, directory, names, errors)
 }
@@ -140,6 +144,7 @@ fn read_entry<R: Files, E: Write>(
 {
     match service_of(name) {
         Seen::Service(service) => {
+            // None where its directory can't be used. What is wrong there is added to `read.remarks`.
             let config = read_service(rt, alloc, directory, service, &mut read.remarks, errors)?;
             read.entries.push(Entry {
                 name: service,
@@ -147,7 +152,9 @@ fn read_entry<R: Files, E: Write>(
             })?;
             Ok(())
         }
+        // A name with a dot in front is passed over.
         Seen::Hidden => Ok(()),
+        // It is no name of a service.
         Seen::Bad => tell_bad_name(alloc, name, errors),
     }
 }
@@ -227,11 +234,13 @@ fn read_service<R: Files, E: Write>(
     let text = str::from_utf8(name.as_bytes()).unwrap_or("-");
     let path = format!(in alloc; "{directory}/{text}")?;
     let mut files = ServiceFiles::of(rt, alloc, path.as_str());
+    // `note` is a fault that doesn't keep the service from running.
     let (config, fault) = match read(alloc, &mut files, name) {
         Ok(found) => (Some(found.config), found.note),
         Err(fault) => (None, Some(fault)),
     };
     if let Some(fault) = fault {
+        // The directory can't be used.
         let is_unread = config.is_none();
         remarks.push(Remark {
             name,

@@ -62,8 +62,11 @@ impl ServiceFiles {
             timeout_finish: look(rt, alloc, directory, ServiceFile::TimeoutFinish),
             max_death_tally: look(rt, alloc, directory, ServiceFile::MaxDeathTally),
             down_signal: look(rt, alloc, directory, ServiceFile::DownSignal),
+            // How many readings failed, for another reason than a refusal of memory.
             failures: 0,
+            // How many readings were refused memory.
             refused: 0,
+            // The file of the last reading that failed or was refused memory.
             failed: None,
         }
     }
@@ -85,8 +88,8 @@ impl ServiceFiles {
         }
     }
 
-    // Counts a reading of this file that failed: in `failures`, or in `refused` where memory was refused. Returns the fault; where `failures` is
-    // full, the reading counts as refused, and the fault becomes `NoMemory`.
+    // Counts a reading of this file that failed: in `failures`, or in `refused` where memory was refused; and keeps the file in `failed`. Returns
+    // the fault; where `failures` is full, the reading counts as refused, and the fault becomes `NoMemory`.
     fn fail(&mut self, file: ServiceFile, fault: ReadFault) -> ReadFault
         ensures same { (f : _) → found_of self.new f ≡ found_of self.old f }
         ensures count { Counts {V = Unit {0}} (Err result) file
@@ -148,7 +151,8 @@ impl servicedir::Files for ServiceFiles {
 
     ghost refused = { λ f. f.refused };
 
-    // Whether the file is there. One that can't be read counts as there.
+    // Whether the file is there. One that can't be read counts as there; where it isn't known whether it is, that is a failure, which is counted.
+    // The name is not looked at: the files are those of one service.
     fn has(&mut self, _name: Name, file: ServiceFile) -> Result<bool, ReadFault> {
         match self.found(file) {
             Reading::Absent => Ok(false),
@@ -158,7 +162,8 @@ impl servicedir::Files for ServiceFiles {
         }
     }
 
-    // A copy of what was read of the file; None where it is absent. A failure is counted.
+    // A copy of what was read of the file; None where it is absent. A failure is counted. The name is not looked at: the files are those of one
+    // service.
     fn text<A: Allocator + Copy>(
         &mut self,
         alloc: A,
@@ -188,6 +193,7 @@ fn copy_of<A: Allocator + Copy>(alloc: A, found: &Reading) -> Result<Option<Vec<
             }
         }
         Reading::NoMemory => Err(ReadFault::NoMemory),
+        // The file could not be read, or it isn't known whether it is there.
         _ => Err(ReadFault::Io),
     }
 }

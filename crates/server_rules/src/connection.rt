@@ -1,4 +1,5 @@
-//! A connection: what it asked, what is under way for it, and its standing (`standing.rt`). docs/PROTOCOL.md has its rules.
+//! A connection: what it asked, what is under way for it (its phase), and the waiters and subscriptions that it made (its standing).
+//! An errand is what a step under way is for, and `Todo` what the caller is to do. docs/PROTOCOL.md has the rules of connections.
 ghost use Rattle.std.specs.Prelude.{◌≡◌, ◌∷◌, [], true, IfSome, IfNone};
 ghost use Rattle.tree_core.specs.declared.input.Act.{Act};
 ghost use Rattle.server_rules.specs.Connection.{View, new_view, ask_next, has_room_on, hands_in, is_ready, leave_next, left_unasked};
@@ -70,13 +71,15 @@ impl Connection {
         ensures left { coming.new.items ≡ left_unasked coming.old.items self.old }
     {
         if self.phase.is_here() && self.asked.is_empty() {
+            // The requests are moved, and `coming` is left empty.
             let none = Vec::new(*coming.allocator());
             self.asked = VecDeque::from_vec(mem::replace(coming, none));
         }
     }
 
-    /// Begins what comes next, if what is under way allows it. `last_step` is the moment of the last step; it and `now` are in
-    /// milliseconds.
+    /// Begins what comes next, if what is under way allows it. `last_step` is the moment of the last step; it and `now` are in milliseconds.
+    /// Nothing is begun while something is under way but steps (`Stepping`), beside which further ones may go on. After the end of a released
+    /// waiter the wait that was put off comes next; for a client that has left (`Leaving`), the end of what it made.
     pub fn begin(&mut self, last_step: u64, now: u64) -> Todo
         ensures next { self.new ≡ (begin_move last_step now self.old).next }
         ensures todo { result ≡ (begin_move last_step now self.old).todo }
@@ -94,7 +97,8 @@ impl Connection {
         }
     }
 
-    // Begins the request that was asked first.
+    // Begins the request that was asked first. A scan, a record, or a step makes that the connection's errand, and is answered later; the others
+    // are answered at once.
     fn begin_first(&mut self, last_step: u64, now: u64) -> Todo
         ensures next { self.new ≡ (begin_first self.old.asked last_step now self.old).next }
         ensures todo { result ≡ (begin_first self.old.asked last_step now self.old).todo }
@@ -113,6 +117,7 @@ impl Connection {
                 self.phase = Phase::UnderWay(Errand::Record);
                 Todo::Record
             }
+            // No step is needed: the letters are told from now on.
             Request::Follow(services) => {
                 self.standing.follow(services);
                 Todo::Give(Answer::Following)
@@ -122,8 +127,8 @@ impl Connection {
         }
     }
 
-    // Begins a step with this act. If it would make a waiter too many and one was released, that one is ended first, and the act is put off
-    // until then. If none was released, or the act would make a subscription too many, the answer is `Busy`.
+    // Begins a step with this act. If it would make a waiter too many and one was released, that one is ended first, and the act is put off until
+    // then. If none was released, or the act would make a subscription too many, the answer is `Busy`. Any other act is handed in at once.
     fn begin_step(&mut self, act: Act<Global>) -> Todo
         ensures next { self.new ≡ (begin_admitted
             (admission_of act self.old.made) act self.old).next }
@@ -157,7 +162,7 @@ impl Connection {
         self.hand_in(Errand::Step(change), act)
     }
 
-    // Hands in the act that was put off.
+    // Hands in the act that was put off, which is a wait: a released waiter has ended, so there is room for one more.
     fn begin_put_off(&mut self) -> Todo
         requires { has_place self.old.made ≡ true }
         ensures next { self.new ≡ (begin_put_off self.old.made.put_off self.old).next }
@@ -201,8 +206,8 @@ impl Connection {
         }
     }
 
-    // Begins a request for the status of services: answers it at once where the last step, at the moment `last_step`, is recent at `now`, and
-    // else hands in a tick first. Both are in milliseconds.
+    // Begins a request for the status of services: answers it at once where the last step, at the moment `last_step`, is recent at `now`. Else it
+    // hands in a tick first: after that step the status is of now. Both moments are in milliseconds.
     fn begin_status(&mut self, subject: Subject, last_step: u64, now: u64) -> Todo
         ensures next { self.new ≡ (begin_request
             (request.Status subject) last_step now self.old).next }
@@ -225,7 +230,8 @@ impl Connection {
         Todo::Submit(act)
     }
 
-    // Ends the next of the waiters and subscriptions that it made. Where none is left, the connection is gone.
+    // Ends the next of the waiters and subscriptions that it made, for a client that has left. Where none is left, it follows nobody any more, and
+    // the connection is gone.
     fn end_next(&mut self) -> Todo
         ensures next { self.new ≡ (ends_by (next_end self.old.made) self.old).next }
         ensures todo { result ≡ (ends_by (next_end self.old.made) self.old).todo }
@@ -243,7 +249,8 @@ impl Connection {
         }
     }
 
-    /// Takes the reply to the step, or to the scan, that was under way.
+    /// Takes the reply to the step, or to the scan, that was under way. Where several steps are, it is that to the first of them, and one less is
+    /// under way. For a client that has left nothing is posted.
     pub fn answered(&mut self, reply: &Reply<Global>) -> Todo
         ensures next { self.new ≡ (answered_move reply.now self.old).next }
         ensures todo { result ≡ (answered_move reply.now self.old).todo }
@@ -279,7 +286,8 @@ impl Connection {
         }
     }
 
-    // Takes the reply to what was under way by itself. A record is not answered by a reply, but by `recorded`.
+    // Takes the reply to what was under way by itself: from then on nothing is (`Idle`), but after a `Replacement`. A record is not answered by a
+    // reply, but by `recorded`.
     fn finish(&mut self, errand: Errand, reply: &Reply<Global>) -> Todo
         requires room { has_room_on errand self.old.made ≡ true }
         requires under { self.old.phase ≡ phase.UnderWay errand }
@@ -300,6 +308,7 @@ impl Connection {
                 self.phase = Phase::Idle;
                 Todo::Give(Answer::Status(subject))
             }
+            // The released waiter has ended; the wait that was put off is begun next.
             Errand::Replacement => {
                 self.phase = Phase::PutOff;
                 Todo::Nothing
@@ -325,7 +334,8 @@ impl Connection {
         }
     }
 
-    /// The run that was to be recorded is in the record, which has `steps` steps now. Nothing changes where the connection waits for no record.
+    /// The run that was to be recorded is in the record, which has `steps` steps now. Nothing changes where the connection waits for no record,
+    /// and nothing is posted where its client has left (`Left`).
     pub fn recorded(&mut self, steps: u64) -> Todo
         ensures next { self.new ≡ (recorded_move steps self.old).next }
         ensures todo { result ≡ (recorded_move steps self.old).todo }
@@ -343,7 +353,8 @@ impl Connection {
         }
     }
 
-    /// The scan, or the record, that is under way can't be made, for this reason. Nothing changes where neither is under way.
+    /// The scan, or the record, that is under way can't be made, for this reason. Nothing changes where neither is under way, and nothing is
+    /// posted where the client has left (`Left`).
     pub fn refuse_errand(&mut self, reason: OwnAnswer) -> Todo
         ensures next { self.new ≡ (refuse_errand_move reason self.old).next }
         ensures todo { result ≡ (refuse_errand_move reason self.old).todo }
@@ -389,7 +400,7 @@ impl Connection {
     }
 
     /// Takes news, which may be for another connection: `Tell` where they are for this one, else `Nothing`. A waiter whose release is told waits
-    /// no more.
+    /// no more: it moves to the released ones.
     pub fn told(&mut self, news: &News) -> Todo
         ensures next { self.new ≡ (told_move news.now self.old).next }
         ensures todo { result ≡ (told_move news.now self.old).todo }
@@ -403,7 +414,7 @@ impl Connection {
         Todo::Tell
     }
 
-    /// The client leaves. Its requests that aren't begun are dropped.
+    /// The client leaves. Its requests that aren't begun are dropped. What is under way goes on, and what it made is ended after that.
     pub fn leave(&mut self)
         ensures { self.new ≡ leave_next self.old }
     {
@@ -418,7 +429,8 @@ impl Connection {
         };
     }
 
-    /// Whether nothing is under way for it, and there is something to begin.
+    /// Whether nothing is under way for it, and there is something to begin: a request, a wait that was put off, or, once its client has left, the
+    /// end of what it made.
     pub fn is_ready(&self) -> bool
         ensures { result ≡ is_ready self.now }
     {

@@ -31,6 +31,7 @@ impl FullServices {
         let mut lines = Vec::new(self.alloc);
         let mut names = Vec::new(self.alloc);
         for one in listed {
+            // The scan had no room for this service.
             if let Listed::Full(name) = one {
                 if !self.was_full(name) {
                     push_full(&mut lines, name)?;

@@ -1,5 +1,4 @@
-//! When a run takes inputs, when it ends, and what comes after each round. A round is one pass of the driver, which is the thread that
-//! drives the tree's runs, over all that is to be done.
+//! When a run takes inputs, when it ends, and what comes after each round: a pass of the driver, which makes the steps, over all that is to be done.
 ghost use Rattle.std.specs.Prelude.{◌≡◌, [], None, false};
 ghost use Rattle.server_rules.specs.Handover.{after_ending, after_round, after_steps, ends_early, has_carried_all, is_busy_lane, last_step, retry_time, takes_inputs, until_due};
 
@@ -127,7 +126,8 @@ impl Round {
         }
     }
 
-    /// What comes after a round while all services are told to end, and no connection is served.
+    /// What comes after a round while all services are told to end, and no connection is served. Reports that found no room, and orders that are
+    /// left, are gone on with at once; else it waits a little.
     pub fn after_ending(&self) -> After
         ensures { result ≡ after_ending self.now }
     {
@@ -168,7 +168,8 @@ impl Pace {
         }
     }
 
-    /// Somebody waits for the run to be recorded: it ends after the steps that it has now, once nothing is left to be done in it.
+    /// Somebody waits for the run to be recorded: it ends after the steps that it has now, once nothing is left to be done in it. If it is to end
+    /// early already, nothing changes.
     pub fn end_early(&mut self)
         ensures { self.new ≡ ends_early self.old }
     {
@@ -177,7 +178,7 @@ impl Pace {
         }
     }
 
-    // After how many steps the run ends.
+    // After how many steps the run ends: at the handover, or earlier where somebody waits for it to be recorded.
     fn last_step(&self) -> u64
         ensures { result ≡ last_step self.now }
     {
@@ -208,10 +209,13 @@ impl Pace {
         }
     }
 
-    // What comes after a round in which all steps were made.
+    // What comes after a round in which all steps were made. The run ends once the tree has ended, or once it has its last step and no lane has an
+    // order left. It goes on at once where a lane has more to carry, where reports found no room (`is_full`), or where a connection has more to
+    // begin.
     fn after_steps(&self, round: &Round) -> After
         ensures { result ≡ after_steps self.now round.now }
     {
+        // No lane has an order left.
         let is_done = round.carrying.is_done();
         if round.has_ended {
             After::Stop(RunEnd::Ended)

@@ -1,4 +1,4 @@
-//! Who each actor is: the scanner, a lane, or the connection on a seat.
+//! Who each actor is, by its number: 0 the scanner (scans and ticks), 1 to 4 the lanes (reports), from 5 on the connections, by their seats.
 ghost use Rattle.std.specs.Prelude.{◌≡◌};
 ghost use Rattle.server_rules.specs.Places.{place_of, client_actor};
 

@@ -1,4 +1,4 @@
-//! What is planned for the scanner, which is actor 0: scans that clients asked for, and ticks for timers and deadlines.
+//! What is planned for actor 0, the scanner: scans that clients asked for (`askers`; the scan under way is for `served`), and ticks for timers.
 ghost use Rattle.std.specs.Prelude.{◌≡◌, [], true, false};
 ghost use Rattle.server_rules.specs.Plans.{is_called, wanted_at};
 

@@ -1,4 +1,4 @@
-//! What a step posts to whom, and in which order.
+//! What a step posts to whom, and in which order. A post is a line, and the seat of the connection that gets it: an answer, or news.
 ghost use Rattle.std.specs.Prelude.{◌≡◌, ◌++◌, ◌+◌, ◌*◌, ◌≤◌, ◌<◌, length, vec_capacity, OnOk, OnErr};
 ghost use Rattle.std.specs.List.{position};
 ghost use Rattle.tree_core.specs.Effect.{outcome_of};
@@ -81,6 +81,7 @@ pub fn hand_out(
 {
     let (matched, released) = (effect.matched.as_slice(), effect.released.as_slice());
     let news = matched.len().saturating_add(released.len());
+    // Each letter may go to every connection.
     let told = effect.events.len().saturating_mul(SEAT_COUNT);
     // Room for all posts is taken first, so that nothing can fail half-way.
     posts.reserve(seats.len().saturating_add(told.saturating_add(news)))?;
@@ -111,7 +112,7 @@ fn answer_all(
     }
 }
 
-// The reply goes to the connection of this seat.
+// The reply goes to the connection of this seat: `answered` says what is posted to it.
 fn answer_one(
     seat: usize,
     reply: &Reply<Global>,
@@ -193,7 +194,7 @@ fn tell_seats(
     }
 }
 
-// The news go to the connection on this seat, if they concern it.
+// The news go to the connection on this seat, if they concern it: `told` says whether they are posted.
 fn tell_seat(seat: usize, news: &News, connections: &mut Vec<Connection>, posts: &mut Vec<Post>)
     requires { length posts.old.items < vec_capacity posts.old }
     ensures connections { connections.new.items
@@ -258,7 +259,7 @@ fn maker_of(connections: &[Connection], news: &News) -> Option<usize>
     connections.iter().position(|one| one.is_for(news))
 }
 
-// Adds what is posted to a connection, if anything is: an answer, or the news.
+// Adds what is posted to a connection, if anything is: an answer, or the news. There is room for it.
 fn add_post(seat: usize, todo: Todo, news: Option<News>, posts: &mut Vec<Post>)
     requires { length posts.old.items < vec_capacity posts.old }
     ensures posts { posts.new.items ≡ posts.old.items ++ posts_of seat news todo }

@@ -83,7 +83,7 @@ fn own_request(line: &[u8]) -> Option<Request>
     }
 }
 
-// The request to be told letters; None for any other line.
+// The request to be told letters, of all services or of those of one name; None for any other line.
 fn follow_request(line: &[u8]) -> Option<Request>
     ensures { result ≡ follow_request line.now }
 {

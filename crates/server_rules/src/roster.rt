@@ -36,7 +36,7 @@ pub struct Member {
     pub start_failed: bool,
 }
 
-// How a service is over after this letter.
+// How a service is over after this letter: `s` and `u` say that it is not, `O` that it failed for good, and `x` that its supervisor has ended.
 fn ending_by(mark: Mark, ending: Option<Ending>) -> Option<Ending>
     ensures { result ≡ ending_by mark ending }
 {
@@ -48,7 +48,7 @@ fn ending_by(mark: Mark, ending: Option<Ending>) -> Option<Ending>
     }
 }
 
-// Since when a service is up or down after this letter, which was told at this moment.
+// Since when a service is up or down after this letter, which was told at this moment: since then for `u` and `d`, and neither after an `s`.
 fn since_by(at: At, mark: Mark, since: Option<At>) -> Option<At>
     ensures { result ≡ since_by at mark since }
 {
@@ -76,6 +76,7 @@ impl Member {
         if event.sid == self.sid {
             self.ending = ending_by(event.mark, self.ending);
             self.since = since_by(at, event.mark, self.since);
+            // A letter of it came since.
             self.start_failed = false;
         }
     }
@@ -115,7 +116,7 @@ impl Roster {
         }
     }
 
-    /// Whether it is so long that services without a row are to be forgotten.
+    /// Whether it is so long that services without a row on the board, which have left the tree, are to be forgotten.
     pub fn is_long(&self) -> bool
         ensures { result ≡ is_long self.now }
     {
@@ -207,7 +208,7 @@ impl Roster {
         }
     }
 
-    /// Forgets the services that have no row.
+    /// Forgets the services that have no row on the board any more.
     pub fn keep(&mut self, rows: &[Row])
         ensures { self.new ≡ filter (has_row rows.now) self.old }
     {

@@ -1,4 +1,4 @@
-//! The rows of the board as they were last read, for the threads of connections.
+//! The rows of the board, the status of each service, as they were last read, for the threads of connections.
 ghost use Rattle.std.specs.Prelude.{◌≡◌, ◌&&◌, IfOk, IfSome, None, OnOk, Some};
 ghost use Rattle.status_board.specs.Board.{last_shot};
 ghost use Rattle.server_rules.specs.Status.{told_text, is_had};
@@ -67,7 +67,7 @@ impl CachedRows {
         Ok(text)
     }
 
-    // They may not be those of the board any more.
+    // The rows may not be those of the board any more: without the moment of their step, no status is told from them.
     fn forget(&mut self)
         ensures step { self.new.step ≡ None }
     {
@@ -81,6 +81,7 @@ impl CachedRows {
             (λ at. (step ≡ Some at) × (last_shot reader.new ≡ Some self.new.shot.value)) }
     {
         self.step = None;
+        // The roster that was copied before is not of these rows.
         self.has_roster = false;
         if reader.read_into(&mut self.shot) {
             self.step = step;
@@ -111,10 +112,14 @@ impl RowCache {
     /// Nothing is read yet. `NoMemory` where memory is refused.
     pub fn new(alloc: Global) -> Result<RowCache, NoMemory> {
         let rows = CachedRows {
+            // The rows.
             shot: Box::new(alloc, Shot::empty())?,
             roster: Roster::new(alloc),
+            // What the last scan could not read.
             unread: Vec::new(alloc),
+            // The moment of the last step before the rows were read: none was.
             step: None,
+            // Whether the roster is of the same step as the rows.
             has_roster: false,
         };
         Ok(RowCache {
@@ -161,6 +166,7 @@ impl RowCache {
     ) -> Result<Vec<u8>, AllocError> {
         let mut rows = self.rows.lock(rt);
         rows.read(reader, step);
+        // For states the roster is needed too: it is copied.
         if !rows.has(subject) && rows.take_roster(roster).is_err() {
             return Err(AllocError);
         }
@@ -177,6 +183,7 @@ impl RowCache {
     ) {
         let mut rows = self.rows.lock(rt);
         rows.read(reader, step);
+        // The rows are those of the last step.
         if rows.step.is_some() {
             roster.keep(rows.shot.rows.as_slice());
         }

@@ -85,7 +85,7 @@ impl Model for Standing {
     ghost invariant = { λ s. length s.waiters.items + length s.released.items ≤ 64 };
 }
 
-// Takes this serial out.
+// Takes this serial, the number of a waiter or a subscription, out of the list.
 fn drop_serial<const CAP: usize>(serials: &mut ArrayVec<u64, CAP>, ended: u64)
     ensures { serials.new.items ≡ without ended serials.old.items }
 {
@@ -121,6 +121,7 @@ impl Standing {
     {
         match act {
             Act::Wait(..) => self.admission_of_waiter(),
+            // It has as many subscriptions as it may have.
             Act::Subscribe(..) if self.subscriptions.is_full() => Admission::Refused,
             _ => Admission::Admitted,
         }
@@ -177,7 +178,7 @@ impl Standing {
         }
     }
 
-    /// The release of this waiter was told: it waits no more.
+    /// The release of this waiter was told: it waits no more, but it stays among the released ones until it is cancelled.
     pub fn note_release(&mut self, id: WaitId)
         requires { is_among id self.old.waiters ≡ true }
         ensures { self.new ≡ after_release id self.old }

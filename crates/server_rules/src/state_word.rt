@@ -1,4 +1,4 @@
-//! The state of a service in one word.
+//! The state of a service in one word, by its status row, and by what its letters and its last start say.
 ghost use Rattle.std.specs.Prelude.{◌≡◌};
 ghost use Rattle.server_rules.specs.States.{started_state, state_after_failed_start, state_of, state_word, stays_down, supervised_state, up_state};
 
@@ -43,7 +43,7 @@ fn up_state(row: &Row) -> StateWord
     }
 }
 
-// The state of a service that stays down.
+// The state of a service that stays down. `ending` is how it is over, if it is.
 fn stays_down(ending: Option<Ending>) -> StateWord
     ensures { result ≡ stays_down ending }
 {
@@ -53,7 +53,8 @@ fn stays_down(ending: Option<Ending>) -> StateWord
     }
 }
 
-// The state of a service whose supervisor is there. The row of a service that died is `ready` once its `finish` is done.
+// The state of a service whose supervisor is there. The row of a service that is down has an `exit` once a run has ended, and is `ready` once the
+// `finish` after that is done.
 fn supervised_state(ending: Option<Ending>, row: &Row) -> StateWord
     ensures { result ≡ supervised_state ending row.now }
 {

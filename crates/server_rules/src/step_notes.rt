@@ -1,4 +1,4 @@
-//! What the steps of a run have told so far.
+//! What the steps of a run have told so far: the roster, which lists the services that scans added and how each is over.
 ghost use Rattle.std.specs.Prelude.{◌≡◌, [], OnOk, OnErr};
 ghost use Rattle.tree_core.specs.Effect.{outcome_of};
 ghost use Rattle.server_rules.specs.StepNotes.{has_noted, with_next_run, with_step, tells_of};
@@ -29,7 +29,9 @@ impl StepNotes {
     {
         StepNotes {
             roster: Roster::new(alloc),
+            // The clock of the tree after the last step that was noted.
             clock: At::zero(),
+            // How many steps of the run were noted.
             noted: 0,
         }
     }
@@ -51,6 +53,7 @@ impl StepNotes {
         if self.has_noted(number) {
             return Ok(());
         }
+        // A scan may have added services.
         if let Reply::Scanned(report) = &effect.reply {
             self.roster.add(report.listed())?;
         }
@@ -58,6 +61,7 @@ impl StepNotes {
         if self.clock < moment {
             self.clock = moment;
         }
+        // The letters that the step told.
         self.roster.note(self.clock, effect.events.as_slice());
         self.noted = number;
         Ok(())

@@ -1,4 +1,4 @@
-//! The lines that are posted to connections, and the line that says where clients can connect.
+//! The lines that are posted to connections, and the line that says where clients can connect. An empty line ends whatever is posted.
 ghost use Rattle.std.specs.Prelude.{◌≡◌, ◌++◌, ◌∷◌, [], OnOk, IfOk};
 ghost use Rattle.s6_replay.specs.Transcript.{match_line, release_line};
 ghost use Rattle.s6_replay.specs.ReplyText.{reply_text};

@@ -1,4 +1,4 @@
-//! What a connection asks of the driver, the thread that drives all runs of the tree.
+//! What a connection asks of the driver, the thread that drives all runs of the tree. The connection's own thread asks and waits for the answers.
 use line_server::SEAT_COUNT;
 use s6_events::NoMemory;
 use server_rules::{Connection, Request};
@@ -36,23 +36,29 @@ pub struct Caller {
 }
 
 impl Caller {
-    /// The caller of a seat on which no connection is.
+    /// The caller of a seat on which no connection is. A caller is what a connection's thread and the driver share of its requests.
     pub fn new(alloc: Global) -> Caller {
         Caller {
             turn: Mutex::new(Turn {
+                // The requests that the driver has not taken yet.
                 asked: Vec::new(alloc),
                 unanswered: 0,
+                // Whether a connection is there.
                 is_here: false,
+                // Whether news may still come for it, though it asks nothing.
                 is_kept: false,
+                // Whether its client has left, and what it made is still to be ended.
                 is_leaving: false,
+                // Whether the tree has ended.
                 is_over: false,
             }),
             changed: Condvar::new(),
         }
     }
 
-    /// Adds a request, and doesn't wait for its answer. Whether fewer than 64 requests wait for the driver then; else all are to be
-    /// answered before the next call. Once the tree has ended it adds nothing, and answers true. At `NoMemory` the request was not added.
+    /// Adds a request for the driver, and doesn't wait for its answer. Returns whether fewer than 64 requests wait for the driver then; else all
+    /// are to be answered before the next call. Once the tree has ended it adds nothing, and answers true. At `NoMemory` the request was not
+    /// added.
     pub fn ask<R: Wait>(&self, rt: &R, request: Request) -> Result<bool, NoMemory> {
         let mut turn = self.turn.lock(rt);
         if turn.is_over {
@@ -60,6 +66,7 @@ impl Caller {
         }
         turn.asked.push(request)?;
         turn.unanswered = turn.unanswered.saturating_add(1);
+        // `await_nobody`, at the end of the tree, waits for a connection that is there.
         turn.is_here = true;
         Ok(turn.asked.len() < ASKED_LIMIT)
     }
@@ -77,7 +84,8 @@ impl Caller {
             .wait_while(rt, turn, |turn| turn.unanswered > 0 && !turn.is_over);
     }
 
-    /// Notes that a connection is there, which was answered without asking the driver. So `await_nobody` waits for it too.
+    /// Notes that a connection is there, which was answered without asking the driver. So `await_nobody`, at the end of the tree, waits for it
+    /// too.
     pub fn note_here<R: Wait>(&self, rt: &R) {
         self.turn.lock(rt).is_here = true;
     }
@@ -99,13 +107,14 @@ impl Caller {
         let mut turn = self
             .changed
             .wait_while(rt, turn, |turn| turn.is_leaving && !turn.is_over);
+        // Nobody is connected on this seat now. `notify_all` wakes `await_nobody`.
         turn.is_here = false;
         turn.is_kept = false;
         self.changed.notify_all();
     }
 
-    /// Hands the waiting requests to `connection`, which takes them if it has begun all that it took before. Once the client has left,
-    /// tells it that instead.
+    /// Hands the waiting requests to `connection`, which takes them if it has begun all that it took before; else they stay. Once the client has
+    /// left, tells it that instead.
     pub fn hand_over<R: Wait>(&self, rt: &R, connection: &mut Connection) {
         let mut turn = self.turn.lock(rt);
         if turn.is_leaving {
@@ -121,11 +130,13 @@ impl Caller {
         turn.is_kept = is_kept;
         turn.unanswered = turn.unanswered.saturating_sub(1);
         if turn.unanswered == 0 {
+            // `await_answers` comes back.
             self.changed.notify_all();
         }
     }
 
-    /// Notes whether something is still to be told to the connection, after it was told news.
+    /// Notes whether something is still to be told to the connection, after it was told news: a connection to which nothing is may be ended once
+    /// it is silent.
     pub fn keep<R: Wait>(&self, rt: &R, is_kept: bool) {
         self.turn.lock(rt).is_kept = is_kept;
     }

@@ -15,6 +15,7 @@ impl ServerClock {
     /// A clock that begins now; None where the system has no clock.
     pub fn start<R: Clock>(rt: &R) -> Option<ServerClock> {
         match (Instant::now(rt), time_of_day(rt)) {
+            // `start` is of a clock that never goes back; `since` is the time of day.
             (Ok(start), Ok(since)) => Some(ServerClock { start, since }),
             _ => None,
         }

@@ -1,4 +1,4 @@
-//! The thread that accepts connections, and how all connections are ended.
+//! The thread that accepts connections, and how all are ended. A connection's caller is where its requests wait for the driver.
 use crate::shared::Shared;
 use line_server::{SEAT_COUNT, Server, serve as serve_lines};
 use std::net::Shutdown;
@@ -34,17 +34,21 @@ fn serve_all<R: Threads + Wait + Clock + Sync>(rt: &R, server: &Server<Shared>) 
 pub fn end_connections<R: Wait + Clock>(rt: &R, server: &Server<Shared>) {
     let callers = &server.answers().callers;
     for caller in callers {
+        // Nobody waits for an answer of the driver any more.
         caller.end(rt);
     }
     for seat in 0..SEAT_COUNT {
         if let Some(mailbox) = server.mailbox(rt, seat) {
+            // A mailbox has what waits to be written to the connection: nothing more is added.
             mailbox.close(rt);
             // So the thread that reads the connection sees its end.
             let _ = mailbox.stream().shutdown(Shutdown::Read);
         }
     }
     for caller in callers {
+        // Meanwhile what was posted is written.
         caller.await_nobody(rt, Duration::from_millis(END_WAIT));
     }
+    // The thread that accepts connections ends.
     server.end(rt);
 }

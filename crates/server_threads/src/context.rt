@@ -1,4 +1,4 @@
-//! What every part of a running tree works with.
+//! What every part of a running tree works with. A seat is the number of a connection, and its mailbox is where texts wait to be written to it.
 use crate::caller::Caller;
 use crate::shared::Shared;
 use line_server::Server;
@@ -24,13 +24,14 @@ impl<'a, R: Wait> Context<'a, R> {
         self.server.answers().alloc
     }
 
-    /// The requests of the connection on this seat; None where there is no such seat.
+    /// The requests of the connection on this seat, as its thread and the driver share them; None where there is no such seat.
     pub fn caller(&self, seat: usize) -> Option<&'a Caller> {
         self.server.answers().callers.get(seat)
     }
 
-    /// Posts a text to the connection on this seat, if there is one; call `wake` afterwards, so that it is written. `Err` says that memory
-    /// for the text was refused: then the connection is ended, since a text would be missing in what it reads.
+    /// Posts a text to the connection on this seat, if there is one: it is added to the connection's mailbox, where it waits; call `wake`
+    /// afterwards, so that it is written. `Err` says that memory for the text was refused: then the connection is ended, since a text would be
+    /// missing in what it reads.
     pub fn post(&self, seat: usize, text: Result<&[u8], AllocError>) {
         let Some(mailbox) = self.server.mailbox(self.rt, seat) else {
             return;

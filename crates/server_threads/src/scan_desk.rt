@@ -1,4 +1,4 @@
-//! The work that the driver leaves to the thread that reads the scan directory: to read it, and to drop closed runs.
+//! The work that the driver, the thread that drives the tree, leaves to the one that reads the scan directory: to read it, and to drop closed runs.
 use run_records::Run;
 use scan_directory::Found;
 use server_rules::OwnAnswer;
@@ -37,7 +37,7 @@ pub struct ScanDesk {
 }
 
 impl ScanDesk {
-    /// Nothing is asked for.
+    /// A desk where nothing is asked for: no listing is wanted, none was read, and no closed run waits to be dropped.
     pub fn new() -> ScanDesk {
         ScanDesk {
             desk: Mutex::new(DeskState {
@@ -50,7 +50,7 @@ impl ScanDesk {
         }
     }
 
-    /// Asks for a listing.
+    /// Asks the thread that reads the scan directory for a listing, and wakes it.
     pub fn ask<R: Wait>(&self, rt: &R) {
         self.desk.lock(rt).is_asked = true;
         self.changed.notify_all();
@@ -75,11 +75,12 @@ impl ScanDesk {
         if desk.is_over {
             return Task::End;
         }
+        // The asking is taken: a later one is another task.
         desk.is_asked = false;
         Task::Read
     }
 
-    /// Leaves what was read.
+    /// Leaves what was read of the scan directory, for the driver, which takes it by `take_found`.
     pub fn leave<R: Wait>(&self, rt: &R, found: ReadScan) {
         self.desk.lock(rt).found = Some(found);
     }

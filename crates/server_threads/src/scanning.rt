@@ -20,6 +20,7 @@ pub fn attend<R: Files + Wait + Copy + Drop, E: Write>(
         match shared.scans.await_task(rt) {
             Task::Read => {
                 let found = read_scan(rt, shared, directory, errors);
+                // The driver takes it there; its bell tells it to look.
                 shared.scans.leave(rt, found);
                 shared.driver.ring(rt);
             }
@@ -40,7 +41,9 @@ fn read_scan<R: Files + Copy + Drop, E: Write>(
     match read_listing(rt, shared.alloc, directory, errors) {
         Ok(found) => Ok(found),
         Err(error) => match error.kind() {
+            // Memory for the listing was refused.
             ErrorKind::OutOfMemory => Err(OwnAnswer::NoMemory),
+            // The directory could not be read, or its listing is too long for a line of a script.
             _ => Err(OwnAnswer::Directory),
         },
     }

@@ -1,4 +1,4 @@
-//! What the threads of a running tree share, from its first run to its last.
+//! What the threads of a running tree share. The driver is the thread that drives the tree; a seat is the number of a client's connection.
 use crate::caller::Caller;
 use crate::clock::ServerClock;
 use crate::scan_desk::ScanDesk;
@@ -25,7 +25,8 @@ pub struct Shared {
 }
 
 impl Answers for Shared {
-    // Answers the line of the client on this seat, at once or by asking the driver. `Close` where there is no such seat.
+    // Answers the line of the client on this seat, at once or by asking the driver. Each seat has a caller, where its requests wait for the
+    // driver, and an actor, the number of whoever hands in an input. `Close` where there is no such seat.
     fn answer<R: Wait + Clock>(&self, rt: &R, seat: usize, line: &[u8], mailbox: &Mailbox) -> Next {
         let (Some(caller), Some(actor)) = (self.callers.get(seat), client_actor(seat)) else {
             return Next::Close;
@@ -37,7 +38,7 @@ impl Answers for Shared {
         Next::GoOn
     }
 
-    // Waits until all that the connection on this seat asked is answered.
+    // Waits until all that the connection on this seat asked is answered. The caller is where its requests wait for the driver.
     fn settle<R: Wait>(&self, rt: &R, seat: usize) {
         if let Some(caller) = self.callers.get(seat) {
             self.await_answers(rt, caller);
@@ -58,7 +59,7 @@ impl Answers for Shared {
         }
     }
 
-    // The connection on this seat has ended: waits until the driver has ended what it made.
+    // The connection on this seat has ended: waits until the driver has ended what it made. The driver's bell wakes the driver for that.
     fn leave<R: Wait>(&self, rt: &R, seat: usize) {
         if let Some(caller) = self.callers.get(seat) {
             caller.leave(rt);
@@ -69,8 +70,8 @@ impl Answers for Shared {
 }
 
 impl Shared {
-    // Answers a request that doesn't need the driver: a status, if the rows are fresh, or a line that is refused. False for any other
-    // request, and while an earlier one is not answered.
+    // Answers a request that doesn't need the driver: a status, if the rows that were last read are fresh, or a line that is refused. False for
+    // any other request, and while an earlier one is not answered.
     fn is_answered_at_once<R: Wait + Clock>(
         &self,
         rt: &R,
@@ -85,6 +86,7 @@ impl Shared {
         match request {
             Request::Status(subject) => self.tell_fresh_status(rt, caller, subject, mailbox),
             Request::Refused(reason) => {
+                // So the end of the tree waits until this is written, though the driver knows of no connection here.
                 caller.note_here(rt);
                 let _ = mailbox.post(rt, reason.text());
                 true
@@ -97,7 +99,7 @@ impl Shared {
         }
     }
 
-    // Tells a status from the rows that were last read. False where they are not fresh, and nothing is told.
+    // Tells a status from the rows that were last read (`rows`). False where they are not fresh, and nothing is told.
     fn tell_fresh_status<R: Wait + Clock>(
         &self,
         rt: &R,
@@ -109,6 +111,7 @@ impl Shared {
         let Some(text) = self.rows.status(rt, self.alloc, now, subject) else {
             return false;
         };
+        // So the end of the tree waits until this is written, though the driver knows of no connection here.
         caller.note_here(rt);
         let _ = match text {
             Ok(text) => mailbox.post(rt, text.as_slice()),
@@ -117,10 +120,11 @@ impl Shared {
         true
     }
 
-    // Asks the driver. Once as many requests wait as may, waits until all are answered. Where memory for the request is refused, it is
-    // answered by `refused NoMemory`, after all earlier ones.
+    // Asks the driver: leaves it the request, at `caller`. Once as many requests wait as may, waits until all are answered. Where memory for the
+    // request is refused, it is answered by `refused NoMemory`, after all earlier ones.
     fn ask<R: Wait>(&self, rt: &R, caller: &Caller, request: Request, mailbox: &Mailbox) {
         match caller.ask(rt, request) {
+            // More requests may be left. Their answers are waited for later.
             Ok(true) => {}
             Ok(false) => self.await_answers(rt, caller),
             Err(_) => {
@@ -130,7 +134,8 @@ impl Shared {
         }
     }
 
-    // Waits until all that was asked is answered, or the tree has ended. Wakes the driver first, unless all is answered already.
+    // Waits until all that was asked is answered, or the tree has ended. Rings the driver's bell first, since it may wait for something to do,
+    // unless all is answered already.
     fn await_answers<R: Wait>(&self, rt: &R, caller: &Caller) {
         if !caller.is_answered(rt) {
             self.driver.ring(rt);

@@ -24,8 +24,8 @@ pub struct SocketFile {
 }
 
 impl SocketFile {
-    /// Removes the file at this path, if it is still this one. Call it while the listener is open: as long as it is, the system gives the
-    /// inode number of its socket to no other file.
+    /// Removes the file at this path, if it is still this one: another server may have put its own there. Call it while the listener is open: as
+    /// long as it is, the system gives the inode number of its socket to no other file.
     pub fn remove<R: Files>(&self, rt: &R, path: &str) {
         if let Ok(found) = fs::symlink_metadata(rt, path) {
             if self.identity.is_that_of(&FileIdentity::of(&found)) {
@@ -45,8 +45,10 @@ pub fn listen<R: Net + Files<File = File>>(
 ) -> io::Result<(UnixListener, SocketFile)> {
     let folder = format!(in alloc; "{path}.new")?;
     let made = format!(in alloc; "{path}.new/s")?;
+    // No other server makes its socket meanwhile.
     let lock = lock_folder(rt, folder.as_str())?;
     let placed = place(rt, folder.as_str(), made.as_str(), path);
+    // A socket that was made and is not in its place goes with its folder.
     if placed.is_err() {
         let _ = fs::remove_file(rt, made.as_str());
     }
@@ -63,6 +65,7 @@ fn lock_folder<R: Files<File = File>>(rt: &R, folder: &str) -> io::Result<File> 
             Err(error) if error.kind() != ErrorKind::AlreadyExists => return Err(error),
             _ => {}
         }
+        // None where the folder is gone by now: it is made again.
         if let Some(lock) = try_lock(rt, folder)? {
             return Ok(lock);
         }
@@ -71,8 +74,8 @@ fn lock_folder<R: Files<File = File>>(rt: &R, folder: &str) -> io::Result<File> 
     Err(ErrorKind::AddrInUse.into())
 }
 
-// Locks the folder; None where it was removed or replaced meanwhile. An error where another server has locked it, or where it is no folder
-// with the rights 0700.
+// Locks the folder; None where it was removed or replaced meanwhile, so that it is to be made again. An error where another server has locked it,
+// or where it is no folder with the rights 0700.
 fn try_lock<R: Files<File = File>>(rt: &R, folder: &str) -> io::Result<Option<File>> {
     let found = match fs::symlink_metadata(rt, folder) {
         Ok(found) => found,
@@ -87,6 +90,7 @@ fn try_lock<R: Files<File = File>>(rt: &R, folder: &str) -> io::Result<Option<Fi
         Err(error) if error.kind() == ErrorKind::NotFound => return Ok(None),
         Err(error) => return Err(error),
     };
+    // Another server has locked it.
     if lock.try_lock().is_err() {
         return Err(ErrorKind::AddrInUse.into());
     }
@@ -122,6 +126,7 @@ fn place<R: Net + Files>(
 fn bind<R: Net + Files>(rt: &R, made: &str) -> io::Result<UnixListener> {
     match UnixListener::bind(rt, made) {
         Err(error) if error.kind() == ErrorKind::AddrInUse => {
+            // A file of an earlier server is there.
             fs::remove_file(rt, made)?;
             UnixListener::bind(rt, made)
         }
@@ -139,6 +144,7 @@ fn check_replaceable<R: Net + Files>(rt: &R, path: &str) -> io::Result<()> {
     if !found.file_type().is_socket() {
         return Err(ErrorKind::AddrInUse.into());
     }
+    // A socket is abandoned if nobody answers on it.
     match UnixStream::connect(rt, path) {
         Ok(_living) => Err(ErrorKind::AddrInUse.into()),
         Err(error) if says_abandoned(error.kind()) => Ok(()),

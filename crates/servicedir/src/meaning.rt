@@ -15,7 +15,7 @@ const TEXT_LIMIT: usize = 4096;
 /// The most deaths that are kept.
 const DEATH_LIMIT: u32 = 4096;
 
-// The number that the text of a file says; None where the text is not valid.
+// The number that the text of a file says; None where the text is not valid. A text of more than 4096 bytes (`TEXT_LIMIT`) never is.
 pub(crate) fn number_in_text(text: &[u8]) -> Option<u32>
     ensures { result ≡ number_in (Some text.now) }
 {
@@ -25,7 +25,7 @@ pub(crate) fn number_in_text(text: &[u8]) -> Option<u32>
     parse_number(text)
 }
 
-// The signal that the text of a file says; None where the text is not valid.
+// The signal that the text of a file says; None where the text is not valid. A text of more than 4096 bytes (`TEXT_LIMIT`) never is.
 pub(crate) fn signal_in_text(text: &[u8]) -> Option<u8>
     ensures { result ≡ signal_in (Some text.now) }
 {
@@ -42,7 +42,8 @@ pub(crate) fn is_longrun_text(text: &[u8]) -> bool
     without_newline(text) == b"longrun".as_slice()
 }
 
-// This number as a descriptor; None where there is no number, or its descriptor is not served.
+// This number as a descriptor, if it is one on which a daemon may say that it is ready: 1, or 3 to 9. None for any other one, or where there is no
+// number.
 pub(crate) fn served_descriptor(number: Option<u32>) -> Option<u8>
     ensures { result ≡ served_number number }
 {
@@ -52,7 +53,8 @@ pub(crate) fn served_descriptor(number: Option<u32>) -> Option<u8>
     }
 }
 
-// The note about a notification-fd that is there. `descriptor` is the served one that its text names; None where it names none.
+// What is noted, for the user, of a notification-fd file that is there: a fault where it names no descriptor that is served, else nothing.
+// `descriptor` is the served one that its text names; None where it names none.
 pub(crate) fn note_of_descriptor(descriptor: Option<u8>) -> Option<DirFault>
     ensures { result ≡ note_beside descriptor }
 {

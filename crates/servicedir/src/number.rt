@@ -19,8 +19,8 @@ pub fn parse_number(text: &[u8]) -> Option<u32>
     parse_digits(without_newline(text), GREATEST_NUMBER)
 }
 
-/// The number that a text of digits says; None where the text is empty, has any other byte, or says more than `most`. Takes no
-/// memory.
+/// The number that a text of digits says, perhaps with leading zeros; None where the text is empty, has any other byte, or says more than `most`.
+/// Takes no memory.
 #[tactic(auto, unfolding(crate::specs::Number::number_up_to))]
 pub fn parse_digits(text: &[u8], most: u32) -> Option<u32>
     ensures value { result ≡ number_up_to most text.now }

@@ -68,7 +68,8 @@ fn look_for_run<F: Files>(files: &mut F, name: Name) -> Result<(), DirFault>
     }
 }
 
-// Looks at the file `type` of the service of this name; `NotLongrun` where it is there and says something else than `longrun`.
+// Looks at the file `type` (`ServiceFile::Kind`) of the service of this name; `NotLongrun` where it is there and says something else than
+// `longrun`.
 fn look_at_type<A: Allocator + Copy, F: Files>(
     alloc: A,
     files: &mut F,
@@ -91,7 +92,8 @@ fn look_at_type<A: Allocator + Copy, F: Files>(
     }
 }
 
-// Reads the configuration of the service of this name, after its `run` and its `type` were looked at.
+// Reads the configuration of the service of this name, after its `run` and its `type` were looked at. A file that is absent, or whose text is not
+// valid, gives the value of a plain directory, which has nothing but `run`.
 #[tactic(auto, unfolding(crate::specs::Config::config_of))]
 fn read_found<A: Allocator + Copy, F: Files>(
     alloc: A,
@@ -111,6 +113,7 @@ fn read_found<A: Allocator + Copy, F: Files>(
 {
     let finish = has(files, name, ServiceFile::Finish)?;
     let down = has(files, name, ServiceFile::Down)?;
+    // The descriptor on which the daemon says that it is ready, and a note where the file names none that is served.
     let readiness = readiness(alloc, files, name)?;
     let timeout_kill = number(alloc, files, name, ServiceFile::TimeoutKill)?;
     let timeout_finish = number(alloc, files, name, ServiceFile::TimeoutFinish)?;
@@ -132,7 +135,8 @@ fn read_found<A: Allocator + Copy, F: Files>(
     })
 }
 
-// The served descriptor that notification-fd names, if it names one, and the `note` of a `Found`.
+// The descriptor that notification-fd names, if it is one that is served, and beside it the note for a file that names none. Where the file is
+// absent, both are None.
 fn readiness<A: Allocator + Copy, F: Files>(
     alloc: A,
     files: &mut F,
@@ -185,7 +189,7 @@ fn number<A: Allocator + Copy, F: Files>(
     }
 }
 
-// The signal that down-signal says; None where the file is absent or its text is not valid.
+// The signal by which the service is told to go down, as its file down-signal says; None where the file is absent or its text is not valid.
 fn signal<A: Allocator + Copy, F: Files>(
     alloc: A,
     files: &mut F,

@@ -36,8 +36,8 @@ pub fn signal_named(word: &[u8]) -> Option<u8>
     number_of_name(without_prefix(word))
 }
 
-/// The name of the signal of this number, without `SIG`, on Linux for x86-64; None for 0 and for every number over 31, which have no
-/// name here. Takes no memory.
+/// The name of the signal of this number, without `SIG`, on Linux for x86-64; None for 0 and for every number over 31, which have no name here.
+/// Takes no memory. The table begins with the name of signal 1.
 #[tactic(auto, unfolding(crate::specs::SignalName::signal_names))]
 pub fn signal_name(number: u8) -> Option<&'static str>
     ensures { option_map (λ name. name.now) result ≡ name_of_signal number }
@@ -61,7 +61,7 @@ fn without_prefix(word: &[u8]) -> &[u8]
     word.strip_prefix(b"SIG".as_slice()).unwrap_or(word)
 }
 
-// The signal of a name without SIG.
+// The number of the signal of a name without SIG. The table of names begins with that of signal 1.
 #[tactic(auto, using(crate::proofs::Places::place_named), unfolding(crate::specs::SignalName::signal_of_name, crate::specs::SignalName::signal_names))]
 fn number_of_name(name: &[u8]) -> Option<u8>
     ensures { result ≡ signal_of_name name.now }
@@ -78,7 +78,7 @@ fn place_in(table: &[&str], name: &[u8]) -> Option<usize>
     table.iter().position(|known| known.as_bytes() == name)
 }
 
-// The signal whose number these digits say, from 1 to 64; None for any other text.
+// The signal whose number these digits say, from 1 to 64; None for any other text. There is no signal 0.
 fn signal_numbered(digits: &[u8]) -> Option<u8>
     ensures { result ≡ signal_number (number_up_to 64 digits.now) }
 {

@@ -35,14 +35,17 @@ pub trait Board<C: Channels>: Drop {
 impl<C: Channels, R: Wait + Drop> Board<C> for BoardWriter<C, R, Global> {
     ghost shots = { λ w. w };
 
+    // By the writer's own function of this name.
     fn publish(&mut self, shot: &Shot) -> Result<(), NoMemory> {
         BoardWriter::publish(self, shot)
     }
 
+    // By the writer's own function of this name.
     fn publish_rows(&mut self, rows: StandingRows<Global>) -> Result<(), NoMemory> {
         BoardWriter::publish_rows(self, rows)
     }
 
+    // All shots that were published so far, for a reader to learn: by the writer's own function of this name.
     fn tell(&self) -> Told<C> {
         BoardWriter::tell(self)
     }

@@ -1,4 +1,4 @@
-//! A shot that the board keeps, and readers see.
+//! A shot that the board keeps, and readers see: the status rows of all services, and the number of steps that the tree had made before (`at`).
 ghost use Rattle.std.specs.Prelude.{◌≡◌, ◌≤◌, IfOk, Some, length};
 ghost use Rattle.status_board.specs.Board.{last_shot};
 

@@ -1,4 +1,4 @@
-//! The history of what was published. It exists in proofs alone, but for its length, which takes the bytes of a number.
+//! The history of what was published on a board. It exists in proofs alone, but for its length, which takes the bytes of a number.
 ghost use Rattle.std.specs.Prelude.{◌≡◌, ◌+◌, ◌==◌, ◌<◌, ◌≤◌, ◌^◌, ◌++◌, ◌∷◌, [], length, nat_le, MatchBool, IsTrue, IsFalse};
 ghost use mathlib.Core.List.{IsPrefix};
 ghost use Rattle.status_board.specs.History.{count_of};
@@ -93,6 +93,7 @@ impl<C: Channels> Published<C> {
         Published {
             count: 0,
             log,
+            // Names the board in the type, for proofs. Nothing is stored.
             channels: PhantomData,
         }
     }
@@ -109,7 +110,7 @@ impl<C: Channels> Published<C> {
         log
     }
 
-    /// A copy: the same shots.
+    /// A copy: the same shots. `again` makes a second token of what is known.
     pub fn copied(&self) -> Published<C>
         ensures { result ≡ self.now }
     {
@@ -137,7 +138,8 @@ impl<C: Channels> Published<C> {
         true
     }
 
-    // Adds a shot to the history, and returns whether it did: not where the history has more shots than these, or these are 2^64 - 1.
+    // Adds a shot to the history, and returns whether it did: not where the history has more shots than these, or these are 2^64 - 1. `word` is an
+    // atomic number that counts the shots of the history.
     pub(crate) fn add<A: Allocator>(&mut self, word: &Count, rows: &StandingRows<A>) -> bool
         requires word { word.now ≡ count_of C.board }
         ensures yes { IsTrue result → self.new ≡ self.old ++ rows.now ∷ [] }
@@ -155,6 +157,7 @@ impl<C: Channels> Published<C> {
             AddsShot,
         >(rows);
         let mut pen = log.no_pen();
+        // Counts one more, if the word still counts `count` shots. The answer is what it counted.
         let found = word.compare_exchange::<AddsShot, NothingGained>(
             count,
             count + 1,

@@ -1,4 +1,4 @@
-//! The end of the board that reads.
+//! The end of the board that reads shots: the status rows of all services after some step, and the number of that step.
 ghost use Rattle.std.specs.Prelude.{◌≡◌, ◌≤◌, IfSome, IfNone, IsTrue, IsFalse, None, Some};
 ghost use mathlib.Core.List.{IsPrefix};
 ghost use Rattle.status_board.specs.Board.{last_shot, last_steps, shot_unless_older, NeverFalls};
@@ -65,17 +65,20 @@ impl<C: Channels, A: Allocator> BoardReader<C, A> {
         ensures at { IsTrue result → NeverFalls self.new → last_steps self.old ≤ shot.new.at }
         ensures none { IsFalse result → (self.new ≡ self.old) × (shot.new ≡ shot.old) }
     {
+        // While it is read, this copy is not changed. None where the writer is gone.
         let Some(guard) = self.handle.enter() else {
             return false;
         };
         let shown: &Shown<C, A> = &guard;
+        // The shot that was published last, with all that were published up to it.
         match shown.change() {
             Some(change) => take_shot(&mut self.known, change, shot),
             None => false,
         }
     }
 
-    /// From now on the reader knows all shots that were told too, so that no read gives an older one than the last of them.
+    /// From now on the reader knows all shots that were told too, so that no read gives an older one than the last of them. What it knows stays
+    /// where that has more shots.
     pub fn learn(&mut self, told: Told<C>)
         ensures later { IsPrefix self.old self.new }
         ensures told { IsPrefix told self.new }
@@ -84,8 +87,8 @@ impl<C: Channels, A: Allocator> BoardReader<C, A> {
     }
 }
 
-// Copies the shot of a change, unless more shots are known than were published up to it. All these are known from then on. Returns whether
-// a shot was copied.
+// Copies the shot of a change, which was published, into `shot`, unless more shots are known than were published up to it: then it is older than
+// one that the reader knows. All these are known from then on. Returns whether a shot was copied.
 fn take_shot<C: Channels, A: Allocator>(
     known: &mut Published<C>,
     change: &Change<C, A>,

@@ -1,4 +1,4 @@
-//! The status rows of all services after some number of steps.
+//! A shot: the status rows of all services, at most `ROW_LIMIT`, and the number of steps that the tree had made when they were taken (`at`).
 ghost use Rattle.std.specs.Prelude.{◌≡◌, []};
 
 use arrayvec::ArrayVec;
@@ -41,6 +41,7 @@ impl Shot {
         ensures { self.new ≡ other.now }
     {
         self.at = other.at;
+        // The rows that this shot had are gone.
         self.rows.clear();
         if self
             .rows

@@ -1,4 +1,5 @@
-//! What readers are shown: `left_right` keeps two copies of it.
+//! What readers are shown: `left_right` keeps two copies of it, one that is read and one that is brought up to date meanwhile.
+//! A change is a shot that was published; a place for one is filled once all memory is there.
 ghost use Rattle.std.specs.Prelude.{◌≡◌, None, Some};
 
 use crate::change::Change;

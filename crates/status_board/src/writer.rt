@@ -1,4 +1,4 @@
-//! The end of the board that publishes.
+//! The end of the board that publishes shots: the status rows of all services after some step. `left_right` keeps two copies of what is shown.
 ghost use Rattle.std.specs.Prelude.{◌≡◌, ◌^◌, ◌<◌, [], ◌∷◌, ◌++◌, IfErr, IfOk, OnErr, OnOk};
 ghost use Rattle.status_board.specs.History.{count_of};
 
@@ -42,7 +42,8 @@ impl Model for NewBoard {
 }
 
 impl NewBoard {
-    /// A new history.
+    /// A new history of what will be published, which is nothing yet. `word` is an atomic number that counts the shots; `log` is a token, for
+    /// proofs, of what is known of them.
     pub fn new() -> NewBoard {
         // The history of a `logbook` has two words: the first counts the shots, and the second is not used.
         let (log, mut first, _second) = Seen::open(Start::alone(), 0, 0);
@@ -52,8 +53,8 @@ impl NewBoard {
         }
     }
 
-    /// A board on which these rows are published, with places for `readers` readers at a time. `C` names its history. `NoMemory` where memory
-    /// is refused: the history comes back as it was.
+    /// A board on which these rows are published, with places for `readers` readers at a time. `C` names its history: `word` counts the shots in
+    /// it, and `published` is what is known of it. `NoMemory` where memory is refused: the history comes back as it was.
     pub fn open<C: Channels, R: Wait + Drop, A: Allocator + Copy>(
         self,
         alloc: A,
@@ -68,6 +69,7 @@ impl NewBoard {
     {
         let NewBoard { word, log } = self;
         let published: Published<C> = Published::over(log);
+        // The two copies of what is shown.
         let (one, other) = (Shown::nothing(), Shown::nothing());
         let Ok(handle) = WriteHandle::new(alloc, rt, one, other, readers) else {
             return Err((NewBoard::again(word, published), NoMemory));
@@ -78,6 +80,7 @@ impl NewBoard {
             word,
             published,
         };
+        // So the board shows rows from the start.
         match writer.publish_rows(first) {
             Ok(()) => Ok(writer),
             Err(refused) => Err((writer.into_new(), refused)),
@@ -157,8 +160,10 @@ impl<C: Channels, R: Wait + Drop, A: Allocator + Copy> BoardWriter<C, R, A> {
         ensures added { OnOk result (self.new ≡ self.old ++ rows ∷ []) }
         ensures same { OnErr result (self.new ≡ self.old) }
     {
+        // The place of what is to be shown, which is empty yet, and a second handle of it for the copies.
         let next: Next<C, A> = Arc::new(self.alloc, OnceLock::new())?;
         let theirs = Arc::try_clone(&next)?;
+        // Both copies are to show this place, from the next `publish` on.
         if self.handle.append(theirs).is_err() {
             return Err(NoMemory);
         }

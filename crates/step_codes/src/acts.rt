@@ -1,4 +1,4 @@
-//! The codes of acts: an act as bytes, and read back.
+//! The codes of acts: an act as bytes, and read back. A run keeps its steps as such codes.
 ghost use Rattle.std.specs.Prelude.{◌≡◌, ◌<◌, ◌≤◌, ◌^◌, ℕ, List, ◌∷◌, length, IsTrue, IfOk, OnOk, ⊤};
 ghost use Rattle.std.specs.declared.alloc.Global.{Global};
 ghost use Rattle.s6_events.specs.Name.{is_name};
@@ -164,6 +164,7 @@ pub fn take_act(alloc: Global, code: &mut Code<'_>) -> Result<PlainAct<Global>, 
         → code.old ≡ act_onto one rest → (act_of plain ≡ one) × (code.new ≡ rest)) }
 {
     let kind = code.take_byte();
+    // Kinds 0 to 5 are a tick and the reports, those above what users ask.
     if kind <= 5 {
         Ok(take_told(alloc, kind, code)?)
     } else {
@@ -185,6 +186,7 @@ fn take_told(alloc: Global, kind: u8, code: &mut Code<'_>) -> Result<PlainAct<Gl
         2 => PlainAct::StartFailed(sid, generation),
         3 => PlainAct::Notify(sid, generation, take_letters(alloc, code)?),
         4 => PlainAct::Death(sid, generation, Exit::take(code)),
+        // Kind 5.
         _ => PlainAct::FinishEnded(sid, generation, Exit::take(code)),
     })
 }
@@ -206,6 +208,7 @@ fn take_asked(alloc: Global, kind: u8, code: &mut Code<'_>) -> Result<PlainAct<G
         11 => PlainAct::MakeDir(Name::take(code)),
         12 => take_svc(alloc, code)?,
         13 => PlainAct::Scanctl(ScanOrder::take(code)),
+        // Kind 14; no greater one is ever added.
         _ => take_wait(alloc, code)?,
     })
 }

@@ -127,6 +127,7 @@ impl KeptInput for ToldInput {
 pub fn told_of(input: &Input<Global>) -> Option<ToldInput>
     ensures { IfSome result (λ told. told ≡ input.now) }
 {
+    // A notification is left out, since it has a list of bytes.
     let act = match &input.act {
         Act::Tick => ToldAct::Tick,
         Act::Started(sid, generation, pid) => ToldAct::Started(*sid, *generation, *pid),

@@ -1,4 +1,4 @@
-//! The codes of lists.
+//! The codes of lists: how many items there are, and the code of each.
 ghost use Rattle.std.specs.Prelude.{◌≡◌, ◌<◌, ◌^◌, ℕ, [], ◌++◌, List, length, OnOk};
 ghost use Rattle.step_codes.specs.Adding.{Adds};
 ghost use Rattle.step_codes.specs.ListCodes.{items_onto, list_onto, AllFit};

@@ -43,6 +43,7 @@ impl Coded for Order {
 
     fn take(code: &mut Code<'_>) -> Order {
         let kind = code.take_byte();
+        // Each kind has the service and its generation first.
         let sid = Sid(u64::take(code));
         let generation = u64::take(code);
         match kind {

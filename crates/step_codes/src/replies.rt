@@ -146,6 +146,7 @@ pub fn take_reply(code: &mut Code<'_>) -> Reply<Global>
         2 => Reply::Row(Row::take(code)),
         3 => Reply::PermanentFailure(bool::take(code)),
         4 => Reply::Waiter(WaitId(u64::take(code))),
+        // 5; no greater one is ever added.
         _ => Reply::Subscription(SubId(u64::take(code))),
     }
 }

@@ -65,6 +65,7 @@ pub fn push_step(
     ensures fits { IfOk result
         (λ has_code. IsTrue has_code → FitsStep input.now (outcome_of effect.now)) }
 {
+    // Matches of subscriptions have no code.
     if !has_act_code(&input.act) || !has_reply_code(&effect.reply) || !effect.matched.is_empty() {
         return Ok(false);
     }
@@ -86,6 +87,7 @@ pub fn push_told_step(
     ensures fits { IfOk result
         (λ has_code. IsTrue has_code → FitsStep input.now (outcome_of effect.now)) }
 {
+    // Matches of subscriptions have no code.
     if !has_reply_code(&effect.reply) || !effect.matched.is_empty() {
         return Ok(false);
     }
@@ -101,6 +103,7 @@ pub fn take_head(code: &mut Code<'_>) -> (Actor, At)
         → code.old ≡ actor ∷ number_onto at rest
         → (result.0 ≡ actor) × (result.1 ≡ at) × (code.new ≡ rest) }
 {
+    // Bytes that are no code of a step give some actor and some moment.
     let actor = Actor::new(code.take_byte()).unwrap_or_default();
     let at = At::new(u64::take(code)).unwrap_or_default();
     (actor, at)
@@ -128,6 +131,7 @@ pub fn take_outcome(code: &mut Code<'_>, effect: &mut Effect<Global>) -> Result<
     effect.events.clear();
     take_list(code, &mut effect.events)?;
     take_orders(code, &mut effect.orders);
+    // A step with a match has no code.
     effect.matched.clear();
     effect.released.clear();
     take_list(code, &mut effect.released)?;

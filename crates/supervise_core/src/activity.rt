@@ -15,6 +15,7 @@ impl ChartState {
     {
         if self.phase == Phase::Gone {
             if !active {
+                // No new supervisor starts while the directory is away.
                 self.timer = None;
             } else if !self.active {
                 // Its directory was away. Where it was listed all along, the timer of the supervisor's end still runs.

@@ -23,8 +23,8 @@ pub enum Change {
 }
 
 impl Change {
-    /// The death that this change, at this moment, adds to the tally of a service: that of a death report that was not stale. None for any
-    /// other change.
+    /// The death that this change, at this moment, adds to the tally (the last deaths) of a service: that of a death report, unless it was refused
+    /// as `stale` (of another run than the present one). None for any other change.
     pub fn counted_death(&self, stale: bool, now: At) -> Option<(At, Exit)>
         ensures { result ≡ death_by self.now stale now }
     {

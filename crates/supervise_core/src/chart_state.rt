@@ -1,4 +1,4 @@
-//! The state of a service without its tally.
+//! The state of a service and its supervisor, without its tally (the last deaths), and the one call that takes any change of it.
 ghost use Rattle.std.specs.Prelude.{◌≡◌, ◌+◌, ◌<◌, ◌≤◌, ◌^◌, length};
 ghost use Rattle.supervise_core.specs.ChartState.{new_service};
 ghost use Rattle.supervise_core.specs.Moves.{begin_move};
@@ -50,13 +50,14 @@ pub struct ChartState {
 
 /// What fills the unused places of a list of fixed size.
 impl Default for ChartState {
+    // What fills the unused places of a list of fixed size: nobody reads it.
     fn default() -> ChartState {
         ChartState::new(Sid(0), Name::default(), Config::plain())
     }
 }
 
 impl ChartState {
-    // An active service whose supervisor has not started yet.
+    // An active service whose supervisor has not started yet: no run was ordered, and none has died. Its directory is listed (`active`).
     fn new(sid: Sid, name: Name, config: Config) -> ChartState
         ensures { result ≡ new_service sid name config }
     {
@@ -64,12 +65,14 @@ impl ChartState {
             sid,
             name,
             config,
+            // No supervisor is there.
             phase: Phase::Gone,
             wanted_up: false,
             exit_requested: false,
             down_pending: false,
             ready_since: None,
             paused: false,
+            // How many runs were ordered, and what is known of the last one: none.
             generation: 0,
             pid: 0,
             notification_fd: None,
@@ -92,7 +95,7 @@ impl ChartState {
         chart
     }
 
-    /// Takes any of the changes, and returns the marks and orders that it gives.
+    /// Takes any of the changes (a report, letters, its timer, a look at its directory), and returns the marks and orders that it gives.
     pub fn change(&mut self, change: &Change, now: At) -> Out
         requires { self.old.generation + 1 < 2 ^ 64 }
         ensures gives { MatchesMove (changed_by change.now now self.old) self.new result }
@@ -104,8 +107,9 @@ impl ChartState {
         out
     }
 
-    /// As `change`, but it adds the marks and orders to what is in `out`. For letters `out` must hold no order, even where they are few:
-    /// there has to be room for the orders of 63 letters.
+    /// Takes any of the changes: a report of a run of this generation (its number), letters of a user, its timer (`Fire`), or what a look at its
+    /// directory found. The marks and orders that this gives are added to what is in `out`. For letters `out` must hold no order, even where they
+    /// are few: there has to be room for the orders of 63 letters.
     pub fn change_onto(&mut self, change: &Change, now: At, out: &mut Out)
         requires marks { length out.old.events.items + most_marks change.now ≤ 4 }
         requires room { length out.old.orders.items + most_orders change.now ≤ 126 }

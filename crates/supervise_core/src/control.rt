@@ -25,7 +25,8 @@ impl ChartState {
         out
     }
 
-    /// As `control`, but it adds its mark, at most one, and its orders, at most two for each letter, to what is in `out`.
+    /// A user sent these letters: they are done in the order written. The mark that they give, at most one, and the orders, at most two for each
+    /// letter, are added to what is in `out`.
     pub fn control_onto(&mut self, letters: &Letters, now: At, out: &mut Out)
         requires marks { length out.old.events.items < 4 }
         requires room { length out.old.orders.items + 2 * length letters.now.items ≤ 126 }
@@ -39,7 +40,7 @@ impl ChartState {
         self.take_letters(letters.as_slice(), now, out);
     }
 
-    // Takes these letters, one after the other.
+    // Takes these letters, one after the other; the marks and orders that they give are added to `out`.
     pub(crate) fn take_letters(&mut self, letters: &[ControlLetter], now: At, out: &mut Out)
         requires marks { length out.old.events.items < 4 }
         requires room { length out.old.orders.items + 2 * length letters.now ≤ 126 }
@@ -55,7 +56,8 @@ impl ChartState {
         }
     }
 
-    // Takes one letter.
+    // Does what page `s6-svc` says of the letter, in the present phase of the service: `u`, `d`, `O`, `r`, `x`, or a letter that stands for a
+    // signal to `run`. The marks and orders that it gives are added to `out`.
     fn take_letter(&mut self, letter: ControlLetter, now: At, out: &mut Out)
         requires marks { length out.old.events.items + marks_left self.old.phase ≤ 4 }
         requires room { length out.old.orders.items + 2 ≤ 126 }
@@ -83,6 +85,7 @@ impl ChartState {
                 }
             }
             ControlLetter::Restart => {
+                // Whether it is wanted up stays as it was, so that it is started again if it was to be.
                 if self.phase == Phase::Up {
                     self.send_down_signal(now, out);
                 }
@@ -112,8 +115,8 @@ impl ChartState {
         }
     }
 
-    // `d`: it is no longer wanted up. It gets its down signal where it is up, or once it is spawned; where it is down, a start that the
-    // timer would bring is given up.
+    // `d`: it is no longer wanted up. It gets its down signal where it is up; where its start is under way, that is noted (`down_pending`), and it
+    // gets the signal once it is spawned; where it is down, a start that the timer would bring is given up.
     fn be_told_down(&mut self, now: At, out: &mut Out)
         requires { length out.old.orders.items < 125 }
         ensures { AppendsMove (down_move self.old.phase now (as_unwanted self.old)) self.new out.old
@@ -128,7 +131,8 @@ impl ChartState {
         }
     }
 
-    // Orders the signal that the letter stands for, where `run` is there; else it does nothing.
+    // Orders the signal that the letter stands for, where `run` is there; else it does nothing. The order names the run by its number
+    // (`generation`).
     fn pass_signal(&mut self, letter: ControlLetter, out: &mut Out)
         requires { length out.old.orders.items < 126 }
         ensures gives { AppendsMove
@@ -147,6 +151,7 @@ impl ChartState {
         }
         out.orders
             .push(Order::Signal(self.sid, self.generation, number));
+        // SIGSTOP and SIGCONT: whether it is stopped is shown in its status row.
         match letter {
             ControlLetter::Pause => self.paused = true,
             ControlLetter::Continue => self.paused = false,

@@ -17,7 +17,7 @@ pub const SUPERVISOR_PAUSE: u32 = 1000;
 
 // The moves that reports and timers are made of. Each adds its marks and orders to those of its change.
 impl ChartState {
-    // Orders the next generation of `run`.
+    // Orders the next start of `run`, which gets the next number (`generation`); reports on it will name that number.
     pub(crate) fn start_run(&mut self, out: &mut Out)
         requires room { length out.old.orders.items < 126 }
         requires next { self.old.generation + 1 < 2 ^ 64 }
@@ -25,6 +25,7 @@ impl ChartState {
     {
         self.generation += 1;
         self.phase = Phase::Starting;
+        // No `d` came since this start was ordered, and no timer is set while it is under way.
         self.down_pending = false;
         self.timer = None;
         // Kept for this run, since the configuration may change while it is there.
@@ -33,7 +34,8 @@ impl ChartState {
         out.orders.push(order);
     }
 
-    // The supervisor starts: mark `s`, and `run` is ordered unless the directory has `down`.
+    // The supervisor starts: mark `s`. `run` is wanted up and ordered, unless the directory has `down`. Nothing stays of what an earlier supervisor
+    // was told.
     pub(crate) fn begin_supervisor(&mut self, out: &mut Out)
         requires marks { length out.old.events.items < 4 }
         requires room { length out.old.orders.items < 126 }
@@ -53,7 +55,7 @@ impl ChartState {
         }
     }
 
-    // `run` gets its down signal and SIGCONT.
+    // `run` gets its down signal, and SIGCONT so that a stopped one gets it too. Where it has not died after `timeout-kill`, the timer kills it.
     pub(crate) fn send_down_signal(&mut self, now: At, out: &mut Out)
         requires { length out.old.orders.items < 125 }
         ensures { AppendsMove (down_signal_move now self.old) self.new out.old out.new }
@@ -61,12 +63,13 @@ impl ChartState {
         out.orders.push(Order::Signal(self.sid, self.generation, self.config.down_signal));
         out.orders
             .push(Order::Signal(self.sid, self.generation, CONTINUE));
+        // SIGCONT makes it go on.
         self.paused = false;
         self.timer = self.kill_timer(now);
     }
 
-    // When the run that gets a down signal is to be killed: as set by an earlier down signal, else after `timeout_kill`; None where that
-    // is 0.
+    // The moment at which the run that gets a down signal is to be killed: the one that an earlier down signal set, else `timeout_kill`
+    // milliseconds from now; None where that is 0.
     fn kill_timer(&self, now: At) -> Option<u64>
         ensures { result ≡ kill_timer now self.now.config.timeout_kill self.now.timer }
     {
@@ -77,7 +80,8 @@ impl ChartState {
         }
     }
 
-    // Orders `finish` for a run that ended with this exit.
+    // Orders `finish` for a run that ended with this exit. Where it has not ended after `timeout_finish` milliseconds, the timer kills it; 0 is no
+    // limit.
     pub(crate) fn start_finish(&mut self, exit: Exit, now: At, out: &mut Out)
         requires { length out.old.orders.items < 126 }
         ensures { AppendsMove (finish_move exit now self.old) self.new out.old out.new }
@@ -114,6 +118,7 @@ impl ChartState {
         requires next { self.old.generation + 1 < 2 ^ 64 }
         ensures { AppendsMove (settle_move now self.old) self.new out.old out.new }
     {
+        // The earliest moment of the next start. It depends on how long the dead run was ready, which is forgotten below.
         let due = restart_due(self.ready_since, self.died_at, now);
         self.phase = Phase::Down;
         self.timer = None;

@@ -1,4 +1,5 @@
-//! The reports: what each does in the phase that it belongs to.
+//! The reports: what each does in the phase that it belongs to. In any other phase, or of another run than the present one, it is stale: it is
+//! refused and changes nothing.
 ghost use Rattle.std.specs.Prelude.{◌≡◌, ◌+◌, ◌<◌, ◌≤◌, ◌^◌, ◌++◌, length};
 ghost use Rattle.supervise_core.specs.Reports.{started_move, start_failed_move, notify_move, death_move, finish_ended_move, finish_done_move, failed_spawn_move, is_awaiting, is_running, is_in_finish, says_ready};
 ghost use Rattle.finish_core.specs.ExitVerdict.{verdict_of};
@@ -36,7 +37,7 @@ impl ChartState {
         self.phase == Phase::Finish && self.generation == generation
     }
 
-    // Whether these bytes, which the run wrote, say for the first time that it is ready.
+    // Whether these bytes, which the run wrote to its notification descriptor, say for the first time that it is ready: by a newline.
     fn says_ready(&self, bytes: &[u8]) -> bool
         ensures { result ≡ says_ready bytes.now self.now }
     {
@@ -55,7 +56,9 @@ impl ChartState {
         out
     }
 
-    /// As `started`, but it adds its mark and its orders, at most two, to what is in `out`.
+    /// `run` of this number (`generation`) was spawned: mark `u`. Where it was told to go down meanwhile (`down_pending`), the down signal follows.
+    /// The report is stale, and changes nothing, unless the start of this run was under way. The mark and the orders, at most two, are added to
+    /// what is in `out`.
     pub fn started_onto(&mut self, generation: u64, pid: u32, now: At, out: &mut Out)
         requires marks { length out.old.events.items < 4 }
         requires room { length out.old.orders.items + 2 ≤ 126 }
@@ -94,7 +97,9 @@ impl ChartState {
         out
     }
 
-    /// As `start_failed`, but it adds its marks, at most two, and its order to what is in `out`.
+    /// `run` or `finish` of this number (`generation`) could not be spawned. `run` is tried again later, or its supervisor ends (`miss_spawn`);
+    /// `finish` counts as done: mark `D`, and what comes next (`settle`). The report is stale, and changes nothing, where neither was awaited. The
+    /// marks, at most two, and the order are added to what is in `out`.
     pub fn start_failed_onto(&mut self, generation: u64, now: At, out: &mut Out)
         requires marks { length out.old.events.items + 2 ≤ 4 }
         requires room { length out.old.orders.items < 126 }
@@ -142,7 +147,8 @@ impl ChartState {
         out
     }
 
-    /// As `notify`, but it adds its mark to what is in `out`. It gives no order.
+    /// `run` of this number (`generation`) wrote these bytes to its notification descriptor: mark `U` at its first newline, and else nothing. The
+    /// report is stale, and changes nothing, unless this run was up. The mark is added to what is in `out`.
     pub fn notify_onto(&mut self, generation: u64, bytes: &[u8], now: At, out: &mut Out)
         requires { length out.old.events.items < 4 }
         ensures gives { AppendsMove
@@ -174,7 +180,9 @@ impl ChartState {
         out
     }
 
-    /// As `death`, but it adds its marks, at most three, and its order to what is in `out`.
+    /// `run` of this number (`generation`) died: mark `d`. Then `finish` is ordered where there is one; else mark `D`, and what comes next
+    /// (`settle`): the supervisor ends, or the service rests, or it is started again. The report is stale, and changes nothing, unless this run was
+    /// up. The marks, at most three, and the order are added to what is in `out`.
     pub fn death_onto(&mut self, generation: u64, exit: Exit, now: At, out: &mut Out)
         requires marks { length out.old.events.items + 3 ≤ 4 }
         requires room { length out.old.orders.items < 126 }
@@ -216,7 +224,9 @@ impl ChartState {
         out
     }
 
-    /// As `finish_ended`, but it adds its marks, at most three, and its order to what is in `out`.
+    /// `finish` of the run of this number (`generation`) ended: mark `D`, and what comes next (`settle`). With the exit code 125 the service has
+    /// failed for good: mark `O` comes first, and it is no longer wanted up. The report is stale, and changes nothing, unless this `finish` was
+    /// there. The marks, at most three, and the order are added to what is in `out`.
     pub fn finish_ended_onto(&mut self, generation: u64, exit: Exit, now: At, out: &mut Out)
         requires marks { length out.old.events.items + 3 ≤ 4 }
         requires room { length out.old.orders.items < 126 }

@@ -1,4 +1,5 @@
-//! A service with its tally, and the calls by which it is driven.
+//! A service: its `standing`, which is its `chart` (the state that changes act on) and its `status` (what is stored of its marks for the status
+//! row); and its `tally`, the last deaths.
 ghost use Rattle.std.specs.Prelude.{◌≡◌, ◌+◌, ◌<◌, ◌^◌, ◌++◌, List, IfOk};
 ghost use Rattle.s6_events.specs.declared.moment.Moment.{Moment};
 ghost use Rattle.supervise_core.specs.ChartState.{new_service, no_move};
@@ -65,8 +66,9 @@ impl<A: Allocator + Copy> Service<A> {
         Ok((service, out))
     }
 
-    /// As `begin`, but its mark and its order are put into `out`, in place of what that held: it is large, and a scan that adds many
-    /// services fills one. Where memory is refused, nothing is said of `out`.
+    /// A new active service, whose supervisor starts: mark `s`, and the first run is ordered unless the directory has `down`. Both are put into
+    /// `out`, in place of what that held: it is large, and a scan that adds many services fills one. It takes the memory of its tally, for as many
+    /// deaths as the configuration says. Where memory is refused, nothing is said of `out`.
     pub fn begin_into(
         alloc: A,
         sid: Sid,
@@ -233,6 +235,7 @@ impl<A: Allocator + Copy> Service<A> {
         self.standing
             .status
             .record_marks(out.events.as_slice(), now);
+        // A stale report, which was refused, adds no death to the tally.
         self.join(if out.stale { None } else { Some((now, exit)) });
         out
     }
@@ -303,11 +306,12 @@ impl<A: Allocator + Copy> Service<A> {
         self.standing
             .status
             .record_marks(out.events.as_slice(), now);
+        // The death that the change reported, if it did, joins the tally.
         self.join(change.counted_death(out.stale, now));
         out
     }
 
-    /// Tells it whether its directory is listed. Page `s6-svscan`.
+    /// Tells it whether its directory is listed. Page `s6-svscan`. That gives no mark and no order.
     pub fn set_active(&mut self, active: bool, now: At) -> Out
         ensures gives { MatchesMove
             (no_move (with_activity active now self.old.chart)) self.new.chart result }
@@ -319,7 +323,8 @@ impl<A: Allocator + Copy> Service<A> {
         Out::new()
     }
 
-    /// Takes the configuration that was now read of its directory; how many deaths are kept stays as it was. Page `servicedir`.
+    /// Takes the configuration that was now read of its directory; how many deaths are kept stays as it was. Page `servicedir`. That gives no mark
+    /// and no order.
     pub fn set_config(&mut self, config: Config) -> Out
         ensures gives { MatchesMove
             (no_move (with_config config self.old.chart)) self.new.chart result }

@@ -86,9 +86,9 @@ impl ServiceState {
         out
     }
 
-    /// As `change`, but it adds the marks and orders to what is in `out`. For letters `out` must hold no order, even where they are few.
-    /// All marks of the service together begin a word of (`s` (`u` `U`? `d` `O`? `D`)* `x`)*: where some marks led to its state before,
-    /// these and the marks of the change lead to its state after. Page `s6-supervise`, "Events".
+    /// Takes any of the changes, as its service does, and adds the marks and orders that this gives to what is in `out`. For letters `out` must
+    /// hold no order, even where they are few. All marks of the service together begin a word of (`s` (`u` `U`? `d` `O`? `D`)* `x`)*: where some
+    /// marks led to its state before, these and the marks of the change lead to its state after. Page `s6-supervise`, "Events".
     pub fn change_onto(&mut self, change: &Change, now: At, out: &mut Out)
         requires marks { length out.old.events.items + most_marks change.now ≤ 4 }
         requires room { length out.old.orders.items + most_orders change.now ≤ 126 }
@@ -104,6 +104,7 @@ impl ServiceState {
         ensures few { length out.new.orders.items
             ≤ length out.old.orders.items + most_orders change.now }
     {
+        // The marks that are in `out` already were recorded with their own changes.
         let before = out.events.len();
         self.chart.change_onto(change, now, out);
         self.status

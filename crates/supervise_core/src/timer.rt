@@ -31,7 +31,7 @@ impl ChartState {
         out
     }
 
-    /// As `fire`, but it adds its mark and its order to what is in `out`.
+    /// Its timer goes off, where it is due; else nothing happens. The mark and the order that this gives are added to what is in `out`.
     pub fn fire_onto(&mut self, now: At, out: &mut Out)
         requires marks { length out.old.events.items < 4 }
         requires room { length out.old.orders.items < 126 }
@@ -46,7 +46,8 @@ impl ChartState {
         }
     }
 
-    // What the timer does, by the phase.
+    // What the timer does, by the phase. It was set in Down for the next start; in Up to kill a run that is slow to go down (`timeout-kill`); in
+    // Finish to kill a `finish` that is slow to end (`timeout-finish`); in Gone for a new supervisor. In Starting none is set.
     fn take_timer_rule(&mut self, out: &mut Out)
         requires marks { length out.old.events.items < 4 }
         requires room { length out.old.orders.items < 126 }

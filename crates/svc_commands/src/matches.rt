@@ -93,7 +93,7 @@ fn usage(kind: ErrorKind) -> UsageFault
     }
 }
 
-// What `clap` finds in the words.
+// What `clap` finds in the words (its matches); a fault where it does not take them.
 pub fn matches_in<'a>(
     command: Command<'a>,
     words: &'a [&'a str],
@@ -111,7 +111,7 @@ pub fn matches_in<'a>(
     }
 }
 
-// The value of the option, or the positional argument, of this id; None where it was not given.
+// The value of the option, or the positional argument, of this id, as the words have it; None where it was not given.
 pub fn text_of<'a>(matches: &ArgMatches<'a>, id: &str) -> Option<&'a str>
     ensures { option_map (λ s. s.now) result ≡ first_of id.now (rows_of (found_of matches.now)) }
 {

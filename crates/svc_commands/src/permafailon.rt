@@ -48,7 +48,7 @@ pub fn compile_permafailon<'a>(
     permafail_command(alloc, &matches)
 }
 
-// The command line, as `clap` sees it.
+// The command line, as `clap` sees it: four words, each with the id by which it is looked up later.
 #[tactic(auto, unfolding(crate::specs::Matches::permafail_app))]
 fn permafailon_command<'a>(alloc: Global) -> Result<Command<'a>, AllocError>
     ensures { IfOk result (λ r. app_of r ≡ permafail_app) }

@@ -36,7 +36,7 @@ pub fn compile_svc(words: &[&str]) -> Result<SvcCommand, UsageFault>
     }
 }
 
-// Adds the letters of a word that begins with a dash (a run), or takes any other word as the name.
+// Adds the letters of a word that begins with a dash (a run), or takes any other word as the name of the service.
 fn read_word(letters: &mut Letters, name: &mut Option<Name>, word: &[u8]) -> Result<(), UsageFault>
     ensures { MatchResult result (λ _. AddsName word.now name.old name.new
         × IsRead svc_letters name_fault word.now letters.old.items

@@ -42,11 +42,12 @@ pub fn compile_svlisten<'a>(
     let own = before_dashes(words);
     let program = after_dashes(words);
     let matches = matches_in(command, own)?;
+    // A missing program is a fault that is looked for among those of the wait, so `wait_command` is told of it.
     let wait = wait_command(&matches, has_no_word(program))?;
     Ok(ListenCommand { wait, program })
 }
 
-// The command line, as `clap` sees it.
+// The command line up to `--`, as `clap` sees it: the options of svwait, `-r` and `-R`, and names.
 #[tactic(auto, unfolding(crate::specs::Matches::listen_app))]
 fn svlisten_command<'a>(alloc: Global) -> Result<Command<'a>, AllocError>
     ensures { IfOk result (λ r. app_of r ≡ listen_app) }

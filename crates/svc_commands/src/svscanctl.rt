@@ -76,7 +76,7 @@ fn add_run(letters: &mut ScanLetters, run: &[u8]) -> Result<(), UsageFault>
     Ok(())
 }
 
-// Adds what one byte means; Unknown where it means nothing.
+// Adds what one byte means: a letter that stands for itself, or `h`, which is `a` and `n`, or `q`, which is `t`. Unknown where it means nothing.
 fn add_byte(letters: &mut ScanLetters, byte: u8) -> Result<(), UsageFault>
     ensures { MatchResult result
         (λ _. (letter_fault (length letters.old.items) (scan_letters byte) ≡ None)

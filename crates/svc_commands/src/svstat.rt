@@ -55,7 +55,7 @@ pub fn compile_svstat<'a>(alloc: Global, words: &'a [&'a str]) -> Result<StatCom
     stat_command(alloc, &matches)
 }
 
-// The command line, as `clap` sees it.
+// The command line, as `clap` sees it: `-o` with its list, and a name.
 #[tactic(auto, unfolding(crate::specs::Matches::stat_app))]
 fn svstat_command<'a>(alloc: Global) -> Result<Command<'a>, AllocError>
     ensures { IfOk result (λ r. app_of r ≡ stat_app) }
@@ -65,7 +65,7 @@ fn svstat_command<'a>(alloc: Global) -> Result<Command<'a>, AllocError>
     with_word(alloc, command, "name")
 }
 
-// The command that the matches say, or the first fault.
+// The command that the matches say, or the first fault: its lines are in the order of the faults.
 fn stat_command(alloc: Global, matches: &ArgMatches<'_>) -> Result<StatCommand, UsageFault>
     ensures { let rows = rows_of (found_of matches.now) in
         MatchResult result (λ command. (stat_fault rows ≡ None) × IsStatCommand rows command)
@@ -116,14 +116,14 @@ fn add_field(fields: &mut Vec<Field>, field: Field) -> Result<(), UsageFault>
     fields.push(field).map_err(|_| UsageFault::NoMemory)
 }
 
-// The items of a list.
+// The items of a list of fields: the texts between its commas.
 fn items_of<'a>(alloc: Global, list: &'a [u8]) -> Result<Vec<&'a [u8]>, AllocError>
     ensures { IfOk result (λ items. map (λ i. i.now) items.items ≡ items_in list.entry.now) }
 {
     list.split(|byte| *byte == b',').collect(alloc)
 }
 
-// The field that is asked for by this name.
+// The field of a status row that is asked for by this name, as `wantedup`; None where there is none.
 #[tactic(auto, unfolding(crate::specs::Fields::field_named))]
 fn field_of(word: &[u8]) -> Option<Field>
     ensures { result ≡ field_named word.now }

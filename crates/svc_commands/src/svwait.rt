@@ -42,10 +42,11 @@ pub fn compile_svwait<'a>(alloc: Global, words: &'a [&'a str]) -> Result<WaitCom
         return Err(UsageFault::NoMemory);
     };
     let matches = matches_in(command, words)?;
+    // svwait starts no program, so that none is lacking (`false`).
     wait_command(&matches, false)
 }
 
-// The command line, as `clap` sees it.
+// The command line, as `clap` sees it: options and names.
 #[tactic(auto, unfolding(crate::specs::Matches::wait_app))]
 fn svwait_command<'a>(alloc: Global) -> Result<Command<'a>, AllocError>
     ensures { IfOk result (λ r. app_of r ≡ wait_app) }
@@ -55,7 +56,8 @@ fn svwait_command<'a>(alloc: Global) -> Result<Command<'a>, AllocError>
     with_names(alloc, command)
 }
 
-// The command that the matches of svwait or svlisten say, or the first fault. `lacks_program`: svlisten was given no program.
+// The command that the matches of svwait or svlisten say, or the first fault: its lines are in the order of the faults. `lacks_program`: svlisten
+// was given no program.
 pub(crate) fn wait_command(
     matches: &ArgMatches<'_>,
     lacks_program: bool,

@@ -1,4 +1,4 @@
-//! A line for each entry of a scan directory.
+//! A line for each entry of a scan directory, which says what svscan would do with it. A remark is a fault that was found in an entry's directory.
 ghost use Rattle.std.specs.Prelude.{◌≡◌, ◌++◌, ◌∷◌, ◌||◌, [], IfOk, OnOk, count_by, is_none, nat_lt, option_map};
 ghost use Rattle.std.specs.List.{flat_map, list_any};
 ghost use Rattle.svcheck.specs.Lines.{fault_of, readiness_words, kind_words, supervised_line, refused_line, entry_line, is_usable, full_line, checked_text, is_refused, unexecutable_line};
@@ -47,7 +47,7 @@ fn push_readiness(text: &mut Vec<u8>, descriptor: Option<u8>) -> Result<(), Allo
     }
 }
 
-// Adds that a service is supervised, or the fault that is noted of it.
+// Adds that a service is supervised, or, in place of that, the fault in its directory that doesn't keep it from running.
 fn push_kind(text: &mut Vec<u8>, note: Option<DirFault>) -> Result<(), AllocError>
     ensures { OnOk result (text.new.items ≡ text.old.items ++ kind_words note) }
 {
@@ -96,6 +96,7 @@ fn push_refused(text: &mut Vec<u8>, name: &[u8], fault: DirFault) -> Result<(), 
 fn push_entry(text: &mut Vec<u8>, remarks: &[Remark], entry: &Entry) -> Result<(), AllocError>
     ensures { OnOk result (text.new.items ≡ text.old.items ++ entry_line remarks.now entry.now) }
 {
+    // The first fault that was found of the service, if any.
     let fault = fault_of(remarks, entry.name);
     match entry.config {
         Some(config) => push_supervised(text, entry.name, config, fault),
@@ -164,6 +165,7 @@ pub fn checked_entries(
 {
     let mut text = Vec::new(alloc);
     push_entries(&mut text, remarks, entries)?;
+    // A last line where there are more services than a tree takes.
     push_full(&mut text, usable_count(entries))?;
     let is_refused = is_refused(entries);
     Ok(Checked { text, is_refused })
@@ -190,6 +192,7 @@ pub fn push_bad_names(text: &mut Vec<u8>, told: &[u8]) -> Result<bool, AllocErro
     let mut is_there = false;
     for line in told.split(|byte| *byte == b'\n') {
         if let Some(name) = bad_name_in(line) {
+            // The name has the quotes of the line around it.
             push_refused(text, name, DirFault::BadName)?;
             is_there = true;
         }

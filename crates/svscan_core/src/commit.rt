@@ -11,7 +11,7 @@ use s6_events::Name;
 use std::alloc::Allocator;
 use supervise_core::Service;
 
-// Gives the service at each of these places its new state and status, and the death that it reported, if any.
+// Gives the service at each of these places its new state and status (`standing`), and adds the death that it reported, if any, to its last deaths.
 fn adopt_all<A: Allocator + Copy>(slots: &mut Slots<A>, touched: &[ChangedService])
     requires { KeepNames slots.old.services touched.now }
     ensures services { slots.new.services ≡ with_changes slots.old.services touched.now }

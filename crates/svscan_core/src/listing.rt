@@ -79,6 +79,7 @@ pub fn has_repeats<A: Allocator + Copy>(alloc: A, listing: &[Entry]) -> Result<b
     let mut names = HashSet::new(alloc);
     let mut repeats = false;
     for entry in listing {
+        // `insert` answers false for a name that came before.
         repeats |= !names.insert(entry.name)?;
     }
     Ok(repeats)

@@ -1,4 +1,4 @@
-//! The services that a step has changed so far, and what it has given.
+//! The services that a step has changed so far (`touched`), and what it has given: `events`, which are marks of services, and `orders`.
 ghost use Rattle.std.specs.Prelude.{◌≡◌, ◌+◌, ◌<◌, ◌≤◌, ◌^◌, ◌*◌, ◌++◌, ◌∷◌, [], map, length, IfOk, OnOk, Some, slice_get, option_map};
 ghost use Rattle.supervise_core.specs.Service.{service_view};
 ghost use Rattle.supervise_core.specs.declared.chart_state.ChartState.{ChartState};
@@ -41,7 +41,7 @@ pub struct Moves<A: Allocator> {
     pub orders: Vec<Order, A>,
 }
 
-/// The service at a place, as the step has it so far: after the last change of it, if it was changed.
+/// The service at a place (its state and its status), as the step has it so far: after the last change of it, if it was changed.
 pub fn standing_at<'a, A: Allocator + Copy>(
     slots: &'a Slots<A>,
     touched: &'a [ChangedService],
@@ -59,7 +59,8 @@ pub fn standing_at<'a, A: Allocator + Copy>(
     Some(standing)
 }
 
-// As `standing_at`, but only the first `before` changes are looked at: those behind them are known to be of other services.
+// The service at a place, as the step has it so far. Only the first `before` changes are looked at: those behind them are known to be of other
+// services.
 fn standing_before<'a, A: Allocator + Copy>(
     slots: &'a Slots<A>,
     touched: &'a [ChangedService],
@@ -114,7 +115,7 @@ impl<A: Allocator + Copy> Moves<A> {
         self.orders.clear();
     }
 
-    /// Adds the marks and orders of a service.
+    /// Adds the marks and orders of a service, which lie in `out`, to what the step gives.
     pub fn give(&mut self, sid: Sid, out: &Out) -> Result<(), NoMemory>
         ensures touched { self.new.touched.items ≡ self.old.touched.items }
         ensures events { OnOk result
@@ -127,7 +128,7 @@ impl<A: Allocator + Copy> Moves<A> {
         add_events(&mut self.events, sid, out.events.as_slice())
     }
 
-    // Notes how a service changes, and adds the marks and the orders that this gives.
+    // Notes how a service changes, and adds the marks and the orders that this gives, which lie in `out`.
     fn touch(&mut self, changed: &ChangedService, out: &Out) -> Result<(), NoMemory>
         ensures touched { OnOk result
             (self.new.touched.items ≡ self.old.touched.items ++ changed.now ∷ []) }
@@ -151,8 +152,8 @@ impl<A: Allocator + Copy> Moves<A> {
         Ok(())
     }
 
-    // Applies the visit to the service at this place, unless it would change nothing. Of the changes so far, those from `before` on are of
-    // other services.
+    // Applies the visit (what each service in turn takes: its timer, a command to all, or a look at its directory) to the service at this place,
+    // unless it would change nothing. Of the changes so far, those from `before` on are of other services.
     fn visit_at<'a>(
         &mut self,
         slots: &'a Slots<A>,
@@ -183,6 +184,7 @@ impl<A: Allocator + Copy> Moves<A> {
         let Some(standing) = standing_before(slots, touched, before, place) else {
             return Ok(());
         };
+        // The visit would change nothing in this service.
         if visit.passes(standing, now) {
             return Ok(());
         }
@@ -196,7 +198,7 @@ impl<A: Allocator + Copy> Moves<A> {
         Ok(())
     }
 
-    /// Applies the visit to each service in turn.
+    /// Applies the visit (what each service in turn takes: its timer, a command to all, or a look at its directory) to each service in turn.
     pub fn visit_all<'a>(
         &mut self,
         slots: &'a Slots<A>,
@@ -218,6 +220,7 @@ impl<A: Allocator + Copy> Moves<A> {
             → OnOk result (length self.new.orders.items
             ≤ length self.old.orders.items + length slots.now.services) }
     {
+        // No service is visited twice: the changes that this visit adds, from here on, are of services that it has done with.
         let before = self.touched.len();
         for place in 0..slots.len() {
             self.visit_at(slots, visit, before, place, now, out)?;
@@ -265,6 +268,7 @@ impl<A: Allocator + Copy> Moves<A> {
         out.clear();
         changed.standing.change_onto(change, now, out);
         let stale = out.stale;
+        // The death that the change reports, if it does and was not stale, for the service's tally of deaths.
         changed.death = change.counted_death(stale, now);
         self.touch(&changed, out)?;
         Ok(stale)

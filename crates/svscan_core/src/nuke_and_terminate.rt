@@ -23,7 +23,7 @@ fn leaving_letters() -> Letters
     letters
 }
 
-// Tells the service to go down, and its supervisor to end.
+// Tells the service to go down, and its supervisor to end: by letters, as a user would.
 fn leave(standing: &mut ServiceState, now: At, out: &mut Out)
     requires { standing.old.chart.generation + 1 < 2 ^ 64 }
     ensures gives { MatchesMove (control_move leave_letters now standing.old.chart)
@@ -46,6 +46,7 @@ pub fn nuke(standing: &mut ServiceState, now: At, out: &mut Out)
     ensures few { length out.new.orders.items ≤ 2 }
 {
     if standing.chart().active {
+        // It gives nothing, while `out` may still hold what another service gave.
         out.clear();
     } else {
         leave(standing, now, out);

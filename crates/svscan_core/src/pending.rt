@@ -36,7 +36,7 @@ pub struct Pending<A: Allocator> {
     pub timers: Vec<TimerChange, A>,
 }
 
-// The moment of a timer; None where there is no timer, or its moment is past the greatest one and never comes.
+// The moment at which a timer is due; None where there is no timer, or its moment is past the greatest one and never comes.
 fn reachable(timer: Option<u64>) -> Option<At>
     ensures { result ≡ in_reach timer }
 {
@@ -56,7 +56,7 @@ fn timer_change(chart: &ChartState) -> TimerChange
     }
 }
 
-// Whether no service changes, leaves or comes.
+// Whether no service changes, leaves or comes, so that no timer changes either.
 fn is_blank<A: Allocator + Copy>(moves: &Moves<A>, scan: &Scanning<A>) -> bool
     ensures touched { result ≡ true → moves.now.touched.items ≡ [] }
     ensures dropped { result ≡ true → scan.now.dropped_sids.items ≡ [] }
@@ -94,19 +94,21 @@ fn list_timers<A: Allocator + Copy>(
 }
 
 impl<A: Allocator + Copy> Pending<A> {
-    /// Nothing is worked out yet, and this is the next serial.
+    /// Nothing is worked out yet. The next new service gets the serial `next_sid`.
     pub fn new(alloc: A, next_sid: u64) -> Pending<A>
         ensures { IsBlank next_sid result }
     {
         Pending {
+            // How services change, with the marks and orders that this gives; and below, which services a scan drops and adds.
             moves: Moves::new(alloc),
             scan: Scanning::new(alloc, next_sid),
             stale: false,
+            // What the step does to the timers of services.
             timers: Vec::new(alloc),
         }
     }
 
-    /// Empties the lists, and keeps their memory; this is the next serial.
+    /// Empties the lists, and keeps their memory, for the next step. The next new service gets the serial `next_sid`.
     pub fn clear(&mut self, next_sid: u64)
         ensures { IsBlank next_sid self.new }
     {
@@ -143,6 +145,7 @@ impl<A: Allocator + Copy> Pending<A> {
         match work {
             ServiceWork::Nothing => Ok(()),
             ServiceWork::Change(sid, change) => {
+                // Only a report can be stale: one of another run than the present one, which is refused.
                 self.stale = self.moves.change_one(slots, *sid, change, now, out)?;
                 Ok(())
             }
@@ -158,7 +161,7 @@ impl<A: Allocator + Copy> Pending<A> {
         }
     }
 
-    /// Works out the work alone: no timer goes off.
+    /// Works out the work alone: no timer goes off. Nothing is changed yet: what is to be changed and given is noted here.
     pub fn work_alone(
         &mut self,
         slots: &Slots<A>,
@@ -182,7 +185,8 @@ impl<A: Allocator + Copy> Pending<A> {
         Ok(())
     }
 
-    /// Works out the whole step: the due timers first, and then the work.
+    /// Works out the whole step: the due timers first, and then the work. Nothing is changed yet: what is to be changed and given is noted here.
+    /// `due` has the serials of the services whose timers are due.
     pub fn work_out(
         &mut self,
         slots: &Slots<A>,
@@ -213,7 +217,8 @@ impl<A: Allocator + Copy> Pending<A> {
     }
 }
 
-// The timer of each service goes off, if it is due; `due` has the serials of these services. Where it is empty, no service is looked at.
+// The timer of each service goes off, if it is due, in rising serial; `due` has the serials of these services. Where it is empty, no service is
+// looked at.
 fn fire_due<A: Allocator + Copy>(
     slots: &Slots<A>,
     moves: &mut Moves<A>,

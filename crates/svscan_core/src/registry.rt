@@ -1,4 +1,4 @@
-//! The table of services: a step is prepared, then committed.
+//! The table of services (the registry): a step is prepared, which changes nothing that is shown, then committed, which takes no memory.
 ghost use Rattle.std.specs.Prelude.{◌≡◌, ◌==◌, ◌+◌, ◌<◌, ◌≤◌, ◌^◌, ◌++◌, [], List, map, find, length, slice_get, bytes_eq, is_some, option_map, IfSome, IfNone, IfOk, IsOk, OnOk, OnErr, false};
 ghost use Rattle.std.specs.List.{list_any};
 ghost use Rattle.s6_events.specs.Clock.{clock_of};
@@ -70,8 +70,10 @@ impl<A: Allocator + Copy> Registry<A> {
         Registry {
             slots: Slots::new(alloc),
             next_sid: 1,
+            // The step that was worked out last, and how many were: none.
             pending: Pending::new(alloc, 1),
             number: 0,
+            // Where the marks and orders of one service's change lie while a step is worked out.
             out: Out::new(),
         }
     }
@@ -205,7 +207,9 @@ impl<A: Allocator + Copy> Registry<A> {
         let out = &mut self.out;
         self.pending
             .work_out(&self.slots, self.next_sid, due, work, now, out)?;
+        // Room for the services that the step adds, so that `commit` takes no memory.
         self.slots.reserve(self.pending.scan.added.len())?;
+        // The plan that is answered only names this step, by a number; the step itself stays in the registry.
         self.number = self.number.wrapping_add(1);
         Ok(RegistryPlan::of(self.number))
     }
@@ -224,7 +228,7 @@ impl<A: Allocator + Copy> Registry<A> {
         self.pending.moves.orders.as_slice()
     }
 
-    /// Whether this step is a report that was stale.
+    /// Whether this step is a report that was stale: of another run than the present one, or not awaited. Then it changes nothing.
     pub fn is_stale(&self) -> bool
         ensures { result ≡ self.now.planned.stale }
     {
@@ -286,7 +290,7 @@ impl<A: Allocator + Copy> Registry<A> {
         self.next_sid = scan.next_sid;
     }
 
-    // Works out a step that has this work alone: no timer goes off.
+    // Works out a step that has this work alone: no timer goes off, and nothing that is shown changes yet.
     fn prepare_alone(&mut self, work: &ServiceWork, now: At) -> Result<RegistryPlan, NoMemory>
         requires listing { IsOrderly self.old.shown.next_sid (work_asked work.now) }
         requires generations { HaveGenerations 1 (charts_of self.old.shown.services) }
@@ -298,12 +302,14 @@ impl<A: Allocator + Copy> Registry<A> {
         let out = &mut self.out;
         self.pending
             .work_alone(&self.slots, self.next_sid, work, now, out)?;
+        // Room for the services that the step adds, so that `commit` takes no memory.
         self.slots.reserve(self.pending.scan.added.len())?;
+        // The plan that is answered only names this step, by a number; the step itself stays in the registry.
         self.number = self.number.wrapping_add(1);
         Ok(RegistryPlan::of(self.number))
     }
 
-    // Does the work at once: it is worked out, what it gives is copied, and it is committed.
+    // Does the work at once: it is worked out (`prepare_alone`), what it gives is copied, and it is committed.
     fn make(&mut self, work: &ServiceWork, now: At) -> Result<Answer<A>, NoMemory>
         requires listing { IsOrderly self.old.shown.next_sid (work_asked work.now) }
         requires generations { HaveGenerations 1 (charts_of self.old.shown.services) }

@@ -64,7 +64,7 @@ fn is_retained(chart: &ChartState) -> bool
     chart.active || chart.phase != Phase::Gone
 }
 
-/// Notes the services that leave, and returns how many stay. Page `s6-svscan`.
+/// Notes the services that leave, and returns how many stay. `touched` are the changes of the step so far. Page `s6-svscan`.
 pub fn plan_drops<A: Allocator + Copy>(
     slots: &Slots<A>,
     touched: &[ChangedService],
@@ -99,21 +99,23 @@ pub fn plan_drops<A: Allocator + Copy>(
 }
 
 impl<A: Allocator + Copy> Scanning<A> {
-    /// Nothing is dropped or added yet, and this is the next serial.
+    /// Nothing is dropped or added yet. The next new service gets the serial `next_sid`.
     pub fn new(alloc: A, next_sid: u64) -> Scanning<A>
         ensures empty { IsEmptyScan result }
         ensures next_sid { result.next_sid ≡ next_sid }
     {
         Scanning {
+            // Names of the services that leave, and their serials.
             dropped: Vec::new(alloc),
             dropped_sids: Vec::new(alloc),
+            // The new services, and what becomes of each listed name for which there is none.
             added: Vec::new(alloc),
             listed: Vec::new(alloc),
             next_sid,
         }
     }
 
-    /// Empties the lists, and keeps their memory; this is the next serial.
+    /// Empties the lists, and keeps their memory, for the next scan. The next new service gets the serial `next_sid`.
     pub fn clear(&mut self, next_sid: u64)
         ensures empty { IsEmptyScan self.new }
         ensures next_sid { self.new.next_sid ≡ next_sid }
@@ -165,6 +167,7 @@ impl<A: Allocator + Copy> Scanning<A> {
     {
         let sid = Sid(self.next_sid);
         let service = Service::begin_into(alloc, sid, *name, config, out)?;
+        // The mark and the order of its start, which are among what the step gives.
         moves.give(sid, out)?;
         self.added.push(service)?;
         self.listed.push(Listed::Added(sid, *name))?;
@@ -206,7 +209,7 @@ impl<A: Allocator + Copy> Scanning<A> {
         self.add_service(alloc, moves, name, config, out)
     }
 
-    // As `add_new_name`, but a name that has a service is passed over.
+    // Adds a service for a listed name, unless it has one, its directory couldn't be read, or the limit is reached. `retained` services stay.
     fn add_name(
         &mut self,
         slots: &Slots<A>,
@@ -237,7 +240,8 @@ impl<A: Allocator + Copy> Scanning<A> {
         self.add_new_name(slots.allocator(), moves, retained, name, found, out)
     }
 
-    // Adds a service for one name after the other, as `add_name` does; `retained` services stay. Page `s6-svscan`.
+    // Adds a service for each of these listed names that has none, as far as its directory could be read and the limit allows; `retained` services
+    // stay. Page `s6-svscan`.
     fn add_names(
         &mut self,
         slots: &Slots<A>,
@@ -295,6 +299,7 @@ pub fn plan_scan<A: Allocator + Copy>(
         (length moves.new.orders.items ≤ length moves.old.orders.items + service_limit) }
 {
     let sorted = sort_listing(slots.allocator(), listing)?;
+    // Each service becomes active or inactive, and takes the configuration that was read.
     moves.visit_all(slots, Visit::Look(&sorted), now, out)?;
     let retained = plan_drops(slots, moves.touched.as_slice(), scan)?;
     let names = sorted.names(slots.allocator())?;

@@ -61,7 +61,7 @@ fn empty_slot<A: Allocator + Copy>(slots: &mut Slab<Service<A>, A>, slot: usize)
 }
 
 impl<A: Allocator + Copy> Slots<A> {
-    /// Slots with no service.
+    /// Slots with no service, and an empty index from names to slots.
     pub fn new(alloc: A) -> Slots<A>
         ensures services { result.services ≡ [] }
     {
@@ -79,7 +79,7 @@ impl<A: Allocator + Copy> Slots<A> {
         self.index.len()
     }
 
-    /// The service at this place, in the order in which they were added.
+    /// The service at this place, in the order in which they were added. The index has at that place the number of its slot.
     pub fn nth(&self, place: usize) -> Option<&Service<A>>
         ensures { option_map (λ s. s.now) result ≡ slice_get self.now.services place }
     {
@@ -112,19 +112,19 @@ impl<A: Allocator + Copy> Slots<A> {
             ≡ slice_set self.old.services place (with_view standing.now death s) }
         ensures room { self.new.room ≡ self.old.room }
     {
-        // For the proof: its clause says that no two names are equal.
+        // Called only for the proof: the contract of `len` says that no two names are equal.
         let _count = self.index.len();
         if let Some((_, slot)) = self.index.get_index(place) {
             adopt_in(&mut self.slots, *slot, standing, death);
         }
     }
 
-    /// Takes out the service of this name, if there is one; the others keep their order.
+    /// Takes the service of this name, if there is one, out of the index and out of its slot; the others keep their order.
     pub fn remove(&mut self, name: Name)
         ensures services { self.new.services ≡ without_name self.old.services name }
         ensures room { self.old.room ≤ self.new.room }
     {
-        // For the proof: its clause says that no two names are equal.
+        // Called only for the proof: the contract of `len` says that no two names are equal.
         let _count = self.index.len();
         if let Some(slot) = self.index.shift_remove(&name) {
             empty_slot(&mut self.slots, slot);
@@ -155,6 +155,7 @@ impl<A: Allocator + Copy> Slots<A> {
     {
         let name = service.chart().name;
         let slot = self.slots.insert_reserved(service);
+        // The name is new, so that no other slot had it; and there is room, so that no memory is asked for.
         let _old = self.index.insert(name, slot).unwrap();
     }
 

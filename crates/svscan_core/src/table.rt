@@ -1,4 +1,5 @@
-//! Questions to the table, and a change of one service in it.
+//! Questions to the table of services (`slots`), and a change of one service in it. A place counts the services from 0, in the order in which they
+//! were added; a serial names a service for good.
 ghost use Rattle.std.specs.Prelude.{◌≡◌, ◌+◌, ◌<◌, ◌^◌, ◌++◌, ◌==◌, List, map, find, bytes_eq, is_some, option_map, slice_get, IfSome, IfNone};
 ghost use Rattle.std.specs.List.{list_any};
 ghost use Rattle.s6_events.specs.Clock.{clock_of};
@@ -60,6 +61,7 @@ pub fn change<A: Allocator + Copy>(
     let place = place_of(slots, sid)?;
     let mut standing = *slots.nth(place)?.standing();
     let out = standing.change(change, now);
+    // The service takes over its changed state, and the death that the change reported, if it did.
     slots.adopt(place, &standing, change.counted_death(out.stale, now));
     Some(out)
 }

@@ -26,7 +26,7 @@ pub enum Visit<'a, A: Allocator> {
     Look(&'a SortedListing<A>),
 }
 
-/// The service takes a change; `out` has the marks and orders of that change, and nothing else.
+/// The service takes a change; `out` then has the marks and orders of that change, and nothing else.
 pub fn take(standing: &mut ServiceState, change: &Change, now: At, out: &mut Out)
     requires { standing.old.chart.generation + 1 < 2 ^ 64 }
     ensures gives { MatchesMove (changed_by change.now now standing.old.chart) standing.new.chart
@@ -53,7 +53,8 @@ fn fire_timer(standing: &mut ServiceState, now: At, out: &mut Out)
 }
 
 impl<A: Allocator + Copy> Visit<'_, A> {
-    /// Whether the visit is known to change nothing in this service and to give nothing.
+    /// Whether the visit is known to change nothing in this service and to give nothing: its timer isn't due, or it is active, where nuke is only
+    /// for inactive ones.
     pub fn passes(self, standing: &ServiceState, now: At) -> bool
         ensures { result ≡ true → visit_move self.entry now standing.now.chart
             ≡ no_move standing.now.chart }
@@ -82,6 +83,7 @@ impl<A: Allocator + Copy> Visit<'_, A> {
             Visit::Command(ScanOrder::Terminate) => terminate(standing, now, out),
             Visit::Look(listing) => {
                 look_at(standing, listing, now);
+                // A look at its directory gives no mark and no order.
                 out.clear();
             }
         }

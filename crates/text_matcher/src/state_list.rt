@@ -1,4 +1,4 @@
-//! Lists of states, each once.
+//! Lists of states of an automaton, each state once: a search for a match stands in several states at a time.
 ghost use Rattle.std.specs.Prelude.{◌≡◌, ◌++◌, ◌∷◌, ◌⊎◌, [], ◌<◌, ◌≤◌, Contains, IfOk, length, slice_index};
 
 use regex_nfa::StateId;
@@ -26,7 +26,7 @@ impl Model for StateList {
 }
 
 impl StateList {
-    /// A list without states, with room for each of `count` ones.
+    /// A list without states, with room for `count` ones: `states` has them in the order in which they were added, `marks` as a set.
     pub fn new(alloc: Global, count: usize) -> Result<StateList, AllocError>
         ensures { IfOk result (λ l. l ≡ record { items = []; count = count }) }
     {
@@ -68,6 +68,7 @@ impl StateList {
         ensures items { (self.new.items ≡ self.old.items)
             ⊎ (self.new.items ≡ self.old.items ++ state ∷ []) }
     {
+        // False where the state is in the set already. The room for all states was made by `new`.
         if self.marks.insert(state) {
             self.states.push_reserved(state);
         }

@@ -13,13 +13,18 @@ use std::alloc::{AllocError, Global};
 use std::marker::Model;
 use std::mem;
 
-// What a letter costs at a state, where one that reads a single range of bytes costs 1. Measured in instructions these are 46, or 60 where the
-// automaton has an assertion, since it then goes twice over each state. A group's end takes 37 or 63, a choice 45 or 112, an assertion 201, and each
-// range of a state that reads several 10.
+// What a letter costs at a state that leads on in two ways, where a state that reads a single range of bytes costs 1. Counted in instructions, a
+// letter takes 46 at a state that reads one range, 10 more for each further range, 45 at a choice and 37 at a group's end. Where the automaton has
+// an assertion these are 60, 10, 112 and 63, and an assertion takes 201.
 const CHOICE_COST: usize = 2;
 
-const ASSERTION_COST: usize = 9;
+// What a letter costs at an assertion.
+const ASSERTION_COST: usize = 5;
 
+// How often a letter goes over each state of an automaton with an assertion: `has_match` can't add its states to `behind` then.
+const WALKS_WITH_ASSERTIONS: usize = 2;
+
+// For so many further ranges of bytes a state that reads several costs 1 more.
 const RANGES_FOR_ONE: usize = 5;
 
 /// How large the automaton of an expression may be.
@@ -28,8 +33,8 @@ pub struct Limits {
     /// The most bytes of its tables, which the compiler may exceed by 24.
     pub bytes: usize,
     /// The most that a letter below 128 may cost: one for each state in which a search of such letters may stand, but two for a choice of two
-    /// ways, nine for an assertion, and for a set of bytes one more for each five of its ranges. The other states are never reached, however
-    /// many there are.
+    /// ways, five for an assertion, and for a set of bytes one more for each five of its ranges. All of it counts twice where there is an
+    /// assertion. The other states are never reached, however many there are.
     pub letter_cost: usize,
 }
 
@@ -95,11 +100,12 @@ impl TextMatcher {
         ensures expression { IfOk result (λ _. is_expression text.now ≡ true) }
     {
         let nfa = automaton_of(alloc, text, limits.bytes)?;
-        if letter_cost(&nfa) > limits.letter_cost {
+        let has_assertions = has_assertion(&nfa);
+        if letter_cost(&nfa, has_assertions) > limits.letter_cost {
             return Err(BuildFault::Refused);
         }
+        // Each list has room for all states, and `heard` for all letters, so that no letter takes memory later.
         let states = nfa.states.len();
-        let has_assertions = has_assertion(&nfa);
         let mut behind = StateList::new(alloc, states)?;
         // Where a search begins that may skip letters before a match.
         behind.add(nfa.unanchored);
@@ -138,6 +144,7 @@ impl TextMatcher {
     {
         self.heard.clear();
         self.behind.clear();
+        // A search of the empty text is in the state in which each search begins.
         self.behind.add(self.nfa.unanchored);
         self.is_standing = false;
         self.has_matched = false;
@@ -162,6 +169,7 @@ impl TextMatcher {
             self.is_standing,
             self.has_matched,
         );
+        // The states to which the letter leads are gathered in `spare`, and become those behind it.
         read_over(&self.nfa, letter, &self.behind, &mut self.spare);
         mem::swap(&mut self.behind, &mut self.spare);
         self.is_standing = false;
@@ -199,13 +207,17 @@ impl TextMatcher {
     }
 }
 
-// How much a letter below 128 costs at most, as `Limits` says.
-fn letter_cost(nfa: &Nfa) -> usize {
+// How much a letter below 128 costs at most, as `Limits` says. It has no clause: a limit of another size would only refuse other patterns.
+fn letter_cost(nfa: &Nfa, has_assertions: bool) -> usize {
     let mut cost: usize = 0;
     for state in &nfa.states {
         cost = cost.saturating_add(state_cost(nfa, *state));
     }
-    cost
+    if has_assertions {
+        cost.saturating_mul(WALKS_WITH_ASSERTIONS)
+    } else {
+        cost
+    }
 }
 
 // How much a state costs where a search of letters below 128 stands in it.

@@ -1,4 +1,5 @@
-//! What an act asks of the services, the waiters and the event directories. Why it may be refused is in `refusals.rt`.
+//! What an act (what an input asks or reports) asks of the services, the waiters and the event directories: the step's choice. Why it may be
+//! refused is in `refusals.rt`.
 ghost use Rattle.std.specs.Prelude.{◌≡◌, ◌+◌, ◌<◌, ◌^◌, List, All, IfOk, IsOk, OnOk, true};
 ghost use Rattle.event_directory.specs.Changes.{directory_request_of};
 ghost use Rattle.s6_events.specs.declared.moment.Moment.{Moment};
@@ -53,7 +54,7 @@ pub enum Choice<'a> {
 }
 
 impl Choice<'_> {
-    /// What is asked of the services.
+    /// What the choice asks of the services, which is nothing for a request that only reads or that other parts serve.
     pub fn services(&self) -> ServiceWork<'_>
         ensures { work_asked result ≡ chosen_work (chosen_of self.now) }
     {
@@ -66,7 +67,7 @@ impl Choice<'_> {
         }
     }
 
-    /// What is asked of the waiters at this moment.
+    /// What the choice asks of the waiters (each waits for a condition of services) at this moment.
     pub fn waiters(&self, now: At) -> WaitChange<'_>
         ensures { wait_request_of result ≡ chosen_change now (chosen_of self.now) }
     {
@@ -93,7 +94,7 @@ impl Choice<'_> {
         }
     }
 
-    /// Whether the tree is closing after it, where it was closing before or not.
+    /// Whether the tree is closing after it, where it was closing before or not: a command to all services may close it.
     pub fn closing(&self, closing: bool) -> bool
         ensures { result ≡ closing_after (chosen_work (chosen_of self.now)) closing }
     {
@@ -154,6 +155,7 @@ pub fn choose<'a, A: Allocator + Copy>(
     }
     match report_in(act) {
         Some(told) => {
+            // `told` is the serial of the service and the report on it.
             *choice = report(registry, told.0, Change::Report(told.1));
             Ok(())
         }
@@ -189,7 +191,7 @@ fn choose_request<'a, A: Allocator + Copy>(
     Ok(())
 }
 
-// As `choose_request`, but the choice is returned.
+// The choice for an act that is neither a report nor a tick. While the tree is closing, it takes no listing and no command to all services.
 fn chosen_for<'a, A: Allocator + Copy>(
     alloc: A,
     registry: &Registry<A>,
@@ -225,6 +227,7 @@ fn chosen_for<'a, A: Allocator + Copy>(
             wait(alloc, registry, *condition, *mode, *timeout, names.names())
         }
         Act::Cancel(id) => Ok(Choice::Cancel(*id)),
+        // Its pattern is not needed here: it is taken out of the act when the step is made.
         Act::Subscribe(target, _, _) => Ok(subscribe(registry, *target)),
         Act::Unsubscribe(id) => Ok(Choice::Unsubscribe(*id)),
         Act::Send(target, message) => Ok(send(*target, message)),

@@ -16,7 +16,8 @@ pub fn later(a: At, b: At) -> At
     if a.millis() < b.millis() { b } else { a }
 }
 
-/// The moments of a step, in a list that has none yet: the clock reading, where the clock moves on, and then its marks.
+/// The moments of a step, for the history, in a list that has none yet: the clock reading, where the clock moves on from `clock` to the later
+/// moment `at`, and then the marks of services.
 pub fn moments_of<A: Allocator + Copy>(
     mut moments: Vec<Moment, A>,
     clock: At,

@@ -100,7 +100,7 @@ impl<A: Allocator + Copy> Effect<A> {
         Ok(())
     }
 
-    // Adds the matches of a step.
+    // Adds the matches of a step, which its event directories found: a subscription, and what it heard (its hit).
     #[inline(always)]
     pub(crate) fn match_all(&mut self, plan: &DirectoriesPlan<A>) -> Result<(), NoMemory>
         ensures reply { self.new.reply ≡ self.old.reply }
@@ -121,7 +121,7 @@ impl<A: Allocator + Copy> Effect<A> {
         Ok(())
     }
 
-    // Adds a release.
+    // Adds the release of a waiter: it waits no longer, and this verdict says how its wait ended.
     fn release(&mut self, waiter: WaitId, verdict: Verdict) -> Result<(), NoMemory>
         ensures reply { self.new.reply ≡ self.old.reply }
         ensures events { self.new.events.items ≡ self.old.events.items }
@@ -152,6 +152,7 @@ impl<A: Allocator + Copy> Effect<A> {
         for pair in plan.released() {
             self.release(pair.0, pair.1)?;
         }
+        // What is answered to the request for a waiter, if there was one in this step.
         let answer = plan.answer();
         if let WaitAnswer::Added(waiter, Some(verdict)) = &answer {
             self.release(*waiter, *verdict)?;

@@ -44,6 +44,7 @@ pub fn has_repeated_name<A: Allocator + Copy>(alloc: A, names: &[Name]) -> Resul
     let mut set = BTreeSet::new(alloc);
     let mut repeats = false;
     for name in names {
+        // `insert` answers false for a name that came before.
         repeats |= !set.insert(*name)?;
     }
     Ok(repeats)

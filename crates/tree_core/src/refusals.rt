@@ -1,6 +1,6 @@
-//! Why an act is refused before a part (services, waiters, event directories) is asked, and the order in which that is looked for. Else
-//! the part that is asked may refuse it: a stale report in `reports.rt` of supervise_core; a full list in `waiter_limits.rt` of
-//! wait_conditions and `refusing.rt` of event_directory.
+//! Why an act is refused before a part (services, waiters, event directories) is asked, and the order in which that is looked for. The choice
+//! is what a step does for its act: the refusal, or what it asks of a part, which may refuse it too: a stale report in `reports.rt` of
+//! supervise_core; a full list in `waiter_limits.rt` of wait_conditions and `refusing.rt` of event_directory.
 ghost use Rattle.std.specs.Prelude.{◌≡◌, ◌==◌, ◌+◌, ◌<◌, ◌≤◌, ◌^◌, ◌++◌, List, map, find, bytes_eq, length, option_map, All, IfOk, None, Some, if◌then◌else◌};
 ghost use Rattle.std.specs.List.{list_any};
 ghost use Rattle.death_tally.specs.PermanentFailure.{are_permanent_failure};
@@ -118,6 +118,7 @@ pub fn judge<'a, A: Allocator + Copy>(
         (tally_in name registry.now.shown.services)) }
 {
     match registry.named(name) {
+        // Its tally, the last deaths, is compared with the list of exits, the count and the seconds.
         Some(service) => { Choice::Failure(permafails(service.tally(), now, seconds, count, list)) }
         None => Choice::Refuse(Refusal::NoService),
     }

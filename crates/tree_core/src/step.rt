@@ -55,7 +55,7 @@ fn tally_of<A: Allocator + Copy>(
     }
 }
 
-// The reply about a waiter that is to be made or to end, by the answer of the waiters.
+// The reply about a waiter that is to be made or to end, by the answer of the waiters (`told`).
 fn waiter_reply<A: Allocator>(told: &WaitAnswer) -> Reply<A>
     ensures { result ≡ waiter_reply told.now }
 {
@@ -63,12 +63,13 @@ fn waiter_reply<A: Allocator>(told: &WaitAnswer) -> Reply<A>
         WaitAnswer::Added(id, _) => Reply::Waiter(*id),
         // `wait` of `refusals.rt` has refused bad names before, so that only the limit of waiters is left.
         WaitAnswer::Refused(_) => Reply::Refused(Refusal::TooMany),
+        // There was no such waiter to be cancelled.
         WaitAnswer::Cancelled(false) => Reply::Refused(Refusal::NoSuch),
         WaitAnswer::Cancelled(true) | WaitAnswer::Nothing => Reply::Done,
     }
 }
 
-// The reply about what was asked of the event directories, by their answer.
+// The reply about what was asked of the event directories, by their answer (`told`).
 fn directory_reply<A: Allocator>(told: &DirectoryAnswer) -> Reply<A>
     ensures { result ≡ directory_reply told.now }
 {
@@ -130,7 +131,8 @@ fn is_just_done<A: Allocator + Copy>(registry: &Registry<A>, choice: &Choice) ->
     }
 }
 
-// Fills an empty effect with what the parts prepared: the reply, the marks and orders, the matches and the releases.
+// Fills an empty effect (all that the step gives) with what the parts prepared: the marks and orders of services, the matches of subscriptions, the
+// releases of waiters, and the reply.
 #[inline(always)]
 fn fill_effect<A: Allocator + Copy>(
     registry: &Registry<A>,
@@ -166,9 +168,10 @@ fn fill_effect<A: Allocator + Copy>(
     Ok(())
 }
 
-/// Works out the step of an input, at this clock: each part prepares its share, and the effect is filled. Only here is worked out what
-/// the clock is after the step, and which services are due. It is called at one place, and is inlined there so that its plan, which is
-/// large, isn't moved.
+/// Works out the step of an input, at this clock: each part prepares its share, and the effect is filled. Nothing is changed yet. `find_due` notes
+/// the services whose timers are due, and `choose` what the act asks of each part; the moments of the step (`joining`) are those that will join the
+/// history, in a list that the history lends. Only here is worked out what the clock is after the step, and which services are due. It is called at
+/// one place, and is inlined there so that its plan, which is large, isn't moved.
 #[inline(always)]
 pub fn plan_step<A: Allocator + Copy>(
     registry: &mut Registry<A>,
@@ -197,7 +200,7 @@ pub fn plan_step<A: Allocator + Copy>(
 {
     effect.clear();
     let alloc = registry.allocator();
-    // For the proof: its clause says that the table is sound.
+    // Called only for the proof: the contract of `len` says that the table of services is sound.
     let _count = registry.len();
     let now = later(clock, input.at);
     deadlines.find_due(now)?;

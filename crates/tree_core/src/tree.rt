@@ -81,7 +81,9 @@ impl<A: Allocator + Copy> Tree<A> {
     }
 
     /// Takes one input as `apply_into` does, and leaves it where it lies: a caller that holds it moves nothing. Once the step is made, nothing is
-    /// said of what lies there. At `NoMemory` the input is as it was, and only the effect has changed.
+    /// said of what lies there. At `NoMemory` the input is as it was, and only the effect has changed. A tree that has taken 2^48 steps is spent,
+    /// and refuses every input. Else the step is planned, and then each part commits its share of the plan; last, the history forgets the moments
+    /// that no waiter needs.
     pub fn apply_in_place(
         &mut self,
         input: &mut Input<A>,
@@ -115,7 +117,7 @@ impl<A: Allocator + Copy> Tree<A> {
             Ok(plan) => plan,
             Err(refused) => return Err(refused),
         };
-        // From here on nothing can be refused, so that the pattern may leave the input.
+        // From here on nothing can be refused, so that the pattern of a new subscription (`offer`) may leave the input.
         let offer = take_offer(&mut input.act, &plan.letters.answer);
         self.clock = plan.now;
         self.steps += 1;
@@ -234,6 +236,7 @@ impl<A: Allocator + Copy> Tree<A> {
     {
         let alloc = self.registry.allocator();
         let registry = self.registry.image(alloc)?;
+        // The moments before this place, which no waiter needs, are forgotten.
         let forgotten = self.waits.needed_from();
         let kept = Vec::from_slice(alloc, kept_of(&self.history, forgotten))?;
         let waits = self.waits.image(alloc)?;

@@ -1,4 +1,4 @@
-//! What the driver keeps for a run, and from the first run to the last.
+//! What the driver, the thread that drives all runs of a tree, keeps for one run (`DriverState`), and from the first run to the last (`Lasting`).
 use channel_names::Channels;
 use client_desk::{ClientDesk, RunBoard};
 use inbox::Seat;
@@ -43,21 +43,31 @@ pub struct Lasting {
 impl Lasting {
     /// What the first run begins with: nothing was handed in, and the first scan found this listing. `NoMemory` where memory is refused.
     pub fn new(alloc: Global, first_listing: Found, has_record: bool) -> Result<Lasting, NoMemory> {
+        // By lane: the report that could not be handed in yet.
         let mut kept = Vec::with_capacity(alloc, LANE_COUNT)?;
         for _ in 0..LANE_COUNT {
             kept.push(None)?;
         }
         Ok(Lasting {
+            // The connections of clients, and what they ask. `has_record`: runs are recorded.
             clients: ClientDesk::new(alloc, has_record)?,
+            // When the next tick is due, and who waits for a scan.
             plans: Plans::new(),
             first_listing: Some(first_listing),
+            // Nothing is begun for connections before the first scan is answered.
             awaits_first: true,
+            // What could not be read of the scan that is handed in.
             unread: Vec::new(alloc),
+            // The services for which the last scan had no room in the tree.
             full: FullServices::new(alloc),
+            // Lines for standard error that are still to be written.
             lines: Vec::new(alloc),
             kept,
+            // What the last step gave, kept for its memory: no step was made yet.
             effect: None,
+            // The tree's clock after the last step that was handed out.
             clock: At::zero(),
+            // The greatest moment of an input that was handed in.
             handed_in: 0,
         })
     }
@@ -67,7 +77,8 @@ impl Lasting {
         self.kept.get_mut(lane)?.take()
     }
 
-    /// Takes `effect` out, or makes one where there is none. Put it back afterwards. `NoMemory` where memory is refused.
+    /// Takes out `effect`, into which each step's result is read, or makes one where there is none. So all steps use the same memory: put it back
+    /// afterwards. `NoMemory` where memory is refused.
     pub fn take_effect(&mut self, alloc: Global) -> Result<Box<Effect<Global>>, NoMemory> {
         match self.effect.take() {
             Some(effect) => Ok(effect),
@@ -111,8 +122,11 @@ impl<'a, C: Channels + Lanes> DriverState<'a, C> {
             known,
             lasting,
             pace,
+            // How many steps of the scanner were handed out.
             scans_and_ticks: 0,
+            // The number of the scan that isn't answered yet.
             scan: None,
+            // What is posted of a step; empty between two steps.
             posts: Vec::new(alloc),
         }
     }
@@ -125,6 +139,7 @@ impl<'a, C: Channels + Lanes> DriverState<'a, C> {
     /// Hands in an act of this actor at the moment `now`, in milliseconds. Where its ring is full, or has taken as many inputs as it ever may,
     /// the act comes back.
     pub fn hand_in(&mut self, actor: usize, now: u64, act: Act<Global>) -> Result<(), Act<Global>> {
+        // The input end of this actor's ring.
         let Some(seat) = self.seats.get_mut(actor) else {
             return Err(act);
         };
@@ -145,6 +160,7 @@ impl<'a, C: Channels + Lanes> DriverState<'a, C> {
         let Some(seat) = self.seats.get(SCANNER) else {
             return false;
         };
+        // The number of this scan among the inputs of the scanner, counted from 1.
         let number = seat.sent().saturating_add(1);
         let Found { listing, remarks } = found;
         let is_taken = self.hand_in(SCANNER, now, Act::Scan(listing)).is_ok();

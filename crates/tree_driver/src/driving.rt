@@ -1,4 +1,4 @@
-//! The driver, the thread that drives all runs, at work on one.
+//! The driver, the thread that drives all runs of a tree, at work on one: in rounds, it hands inputs in, makes steps, and hands out what they gave.
 use crate::delivery::deliver_all;
 use crate::driver_state::{DriverState, Lasting};
 use crate::lanes::{carry_all, hand_in_reports};
@@ -28,12 +28,15 @@ pub fn drive_run<C: Channels + Lanes, D: Board<C>, B: Backend, R: Wait + Clock, 
 ) -> RunEnd {
     for _ in context.rt.forever() {
         let now = context.shared().clock.millis(context.rt);
+        // A run that is to end takes no further inputs.
         let is_open = state.pace.takes_inputs();
         let mut is_full = false;
         if is_open {
             hand_in_all(context, state, now);
+            // A ring was full before all reports of the lanes were handed in.
             is_full = hand_in_reports(context, office, state, now);
         }
+        // Makes the steps. `halt` says why no further one was made.
         let halt = drive_some(context, office, state);
         let round = round_after(context, office, state, halt, now, is_open, is_full);
         write_error_lines(state.lasting, errors);
@@ -47,7 +50,7 @@ pub fn drive_run<C: Channels + Lanes, D: Board<C>, B: Backend, R: Wait + Clock, 
     RunEnd::Full
 }
 
-/// Writes the lines that still wait for standard error.
+/// Writes the lines that still wait for standard error: they are about services for which a scan had no room.
 pub fn write_error_lines<E: Write>(lasting: &mut Lasting, errors: &mut E) {
     if !lasting.lines.is_empty() {
         let _ = errors.write_all(lasting.lines.as_slice());
@@ -55,8 +58,9 @@ pub fn write_error_lines<E: Write>(lasting: &mut Lasting, errors: &mut E) {
     }
 }
 
-/// Ends a round: wakes the connections, has the lanes carry, and returns what the round has found. It began at the moment `now`, in
-/// milliseconds; `halt` says why no further step was made, and `is_open` and `is_full` are as in `Round`.
+/// Ends a round: wakes the connections to which something was posted, has the lanes carry orders, and returns what the round has found. It began
+/// at the moment `now`, in milliseconds; `halt` says why no further step was made, `is_open` whether the run took inputs, and `is_full` whether a
+/// ring was full before all reports were handed in. `state.known` is for proofs alone.
 pub fn round_after<C: Channels + Lanes, D: Board<C>, B: Backend, R: Wait>(
     context: &Context<'_, R>,
     office: &Office<C, D, B>,
@@ -68,6 +72,7 @@ pub fn round_after<C: Channels + Lanes, D: Board<C>, B: Backend, R: Wait>(
 ) -> Round {
     state.lasting.clients.wake_all(context);
     let carrying = carry_all(context, office);
+    // A busy lane is one that takes no order now. Meanwhile a run takes inputs for some steps more.
     state.pace.is_lane_busy = !carrying.busy.is_empty();
     let is_idle = halt == Halt::Idle;
     if is_idle {
@@ -86,22 +91,25 @@ pub fn round_after<C: Channels + Lanes, D: Board<C>, B: Backend, R: Wait>(
     }
 }
 
-// Hands in scans, ticks, and what connections ask. The first scan goes before all else.
+// Hands in scans, ticks, and what connections ask. The first scan, of the listing that was read at the start, goes before all else.
 fn hand_in_all<C: Channels + Lanes, R: Wait>(
     context: &Context<'_, R>,
     state: &mut DriverState<'_, C>,
     now: u64,
 ) {
     if let Some(listing) = state.lasting.first_listing.take() {
+        // This scan is made for nobody who asked.
         state.lasting.plans.begin_scan();
         // It is the first input of the first run, so there is room for it.
         let _ = state.submit_scan(now, listing);
     }
+    // Nothing else is handed in before the first scan is answered.
     if state.lasting.awaits_first {
         return;
     }
     begin_all(context, state, now);
     hand_in_found(context, state, now);
+    // A connection waits for a scan, and none is under way: another thread is asked to read the directory.
     if state.lasting.plans.is_called() {
         state.lasting.plans.begin_scan();
         context.shared().scans.ask(context.rt);
@@ -109,16 +117,17 @@ fn hand_in_all<C: Channels + Lanes, R: Wait>(
     hand_in_due(state, now);
 }
 
-/// Hands in a tick, if one is wanted at this moment, in milliseconds.
+/// Hands in a tick, which lets the timers and deadlines that are due go off, if one is wanted at this moment, in milliseconds.
 pub fn hand_in_due<C: Channels + Lanes>(state: &mut DriverState<'_, C>, now: u64) {
     if state.lasting.plans.wanted(now) == Wanted::Tick {
-        // If the ring is full, `round_after` looks again for what is due, after the steps that fill it.
+        // The tick is handed in now. If the ring is full, `round_after` looks again for what is due, after the steps that fill it.
         state.lasting.plans.due = None;
         let _ = state.hand_in(SCANNER, now, Act::Tick);
     }
 }
 
-// Hands in a listing that was read, or tells those that asked for a scan why there is none.
+// Hands in the listing that another thread has read of the scan directory, if there is one; or tells those that asked for the scan why there is
+// none.
 fn hand_in_found<C: Channels + Lanes, R: Wait>(
     context: &Context<'_, R>,
     state: &mut DriverState<'_, C>,
@@ -127,6 +136,7 @@ fn hand_in_found<C: Channels + Lanes, R: Wait>(
     let Some(found) = context.shared().scans.take_found(context.rt) else {
         return;
     };
+    // None: the scan was handed in, and its reply answers those that asked.
     let Some(reason) = refusal_of(state, now, found) else {
         return;
     };
@@ -143,11 +153,13 @@ fn refusal_of<C: Channels + Lanes>(
 ) -> Option<OwnAnswer> {
     match found {
         Err(reason) => Some(reason),
+        // `Full`: the scanner's ring didn't take the scan.
         Ok(found) => (!state.submit_scan(now, found)).then_some(OwnAnswer::Full),
     }
 }
 
-/// Makes all steps that can be made, and hands out what they gave. Returns why no further step was made.
+/// Makes all steps that can be made, and hands out what they gave. Returns why no further step was made. The office makes the steps, and shows the
+/// rows of the services on the board. `state.known` is for proofs alone.
 pub fn drive_some<C: Channels + Lanes, D: Board<C>, B: Backend, R: Wait>(
     context: &Context<'_, R>,
     office: &Office<C, D, B>,
@@ -156,6 +168,7 @@ pub fn drive_some<C: Channels + Lanes, D: Board<C>, B: Backend, R: Wait>(
     for _ in context.rt.forever() {
         let driven = office.drive(context.rt, &mut state.known, STEPS);
         if driven.steps > 0 {
+            // From now on the board's reader gives no rows that are older than those which were shown last.
             let told = office.tell(context.rt, &mut state.known);
             state.board.reader.learn(told);
         }
@@ -180,13 +193,15 @@ pub fn drive_some<C: Channels + Lanes, D: Board<C>, B: Backend, R: Wait>(
     Halt::Idle
 }
 
-// Brings up to date what statuses are told from, after a drive: the board, and the rows that were read of it.
+// Brings up to date what statuses are told from, after the steps of one call of `drive`: how many steps were made, whether the board shows the
+// last of them, and the rows that were read of the board before, which are no longer fresh.
 fn note_steps<C: Channels + Lanes, R: Wait>(
     context: &Context<'_, R>,
     state: &mut DriverState<'_, C>,
     driven: Driven,
 ) {
     let board = &mut state.board;
+    // A drive that was refused memory may not have shown its last step.
     board.is_shown = driven.stop != DriveStop::NoMemory;
     board.made = board.made.saturating_add(driven.steps);
     if driven.steps > 0 || !board.is_shown {
@@ -194,7 +209,7 @@ fn note_steps<C: Channels + Lanes, R: Wait>(
     }
 }
 
-/// Waits for the driver's bell, but at most so many milliseconds where a number is given.
+/// Waits until somebody rings the driver's bell, since there is something to do, but at most so many milliseconds where a number is given.
 pub fn wait_for_bell<R: Wait + Clock>(context: &Context<'_, R>, time: Option<u64>) {
     let bell = &context.shared().driver;
     match time {

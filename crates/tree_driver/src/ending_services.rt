@@ -24,12 +24,13 @@ pub fn end_services<C: Channels + Lanes, D: Board<C>, B: Backend, R: Wait + Cloc
 ) {
     let clock = context.shared().clock;
     let begun = clock.millis(context.rt);
-    // No scan is begun any more; one that is asked for would go before each tick.
+    // Those who wait for a scan are dropped: no scan is begun any more, and a scan that is asked for would go before each tick.
     state.lasting.plans.askers.clear();
-    // All inputs of the run are done, so the ring has room for it.
+    // The order `-t` is the next input. All inputs of the run are done, so the ring has room for it.
     let _ = state.hand_in(SCANNER, begun, Act::Scanctl(ScanOrder::Terminate));
     for _ in context.rt.forever() {
         let now = clock.millis(context.rt);
+        // How long services may still take to end, in milliseconds.
         let left = END_WAIT.saturating_sub(now.saturating_sub(begun));
         if left == 0 {
             break;
@@ -37,7 +38,7 @@ pub fn end_services<C: Channels + Lanes, D: Board<C>, B: Backend, R: Wait + Cloc
         hand_in_due(state, now);
         let is_full = hand_in_reports(context, office, state, now);
         let halt = drive_some(context, office, state);
-        // `true`: the run still takes reports and ticks.
+        // Has the lanes carry orders. `true`: the run still takes reports and ticks.
         let round = round_after(context, office, state, halt, now, true, is_full);
         match round.after_ending() {
             After::GoOn => {}

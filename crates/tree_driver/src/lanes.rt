@@ -1,4 +1,4 @@
-//! The lanes, as the driver sees them: they carry orders, and give reports back.
+//! The lanes, as the driver sees them: each is a queue of orders to a thread that starts and signals programs, and gives back reports of them.
 use crate::driver_state::DriverState;
 use channel_names::Channels;
 use office::Office;
@@ -11,7 +11,8 @@ use std::sync::Wait;
 /// The most orders that a lane carries before the next one gets its turn.
 const ORDERS: u64 = 256;
 
-/// Has each lane carry at most 256 orders. Returns whether one may have more to carry, and which lanes take no order now.
+/// Has each lane carry at most 256 orders: these are handed over to the lane's thread. Returns whether one may have more to carry, and which lanes
+/// take no order now.
 pub fn carry_all<C: Channels + Lanes, D: Board<C>, B: Backend, R: Wait>(
     context: &Context<'_, R>,
     office: &Office<C, D, B>,
@@ -21,7 +22,9 @@ pub fn carry_all<C: Channels + Lanes, D: Board<C>, B: Backend, R: Wait>(
         match office.carry(context.rt, lane, ORDERS) {
             // It carried 256 orders, and further ones may be left.
             Carried::Asked => carrying.has_more = true,
+            // No order is left.
             Carried::Idle => {}
+            // The lane takes no order now. The list has room for each lane, so the push can't fail.
             Carried::Refused(_) => {
                 let _ = carrying.busy.try_push(lane);
             }
@@ -30,8 +33,8 @@ pub fn carry_all<C: Channels + Lanes, D: Board<C>, B: Backend, R: Wait>(
     carrying
 }
 
-/// Hands in the reports of all lanes at their seats. A report that a seat doesn't take is kept for the next call. Whether there was such a
-/// report. The moment is in milliseconds.
+/// Hands in the reports of all lanes at their seats. A report that a seat doesn't take, since its ring is full, is kept for the next call. Returns
+/// whether there was such a report. The moment is in milliseconds.
 pub fn hand_in_reports<C: Channels + Lanes, D: Board<C>, B: Backend, R: Wait>(
     context: &Context<'_, R>,
     office: &Office<C, D, B>,
@@ -41,8 +44,9 @@ pub fn hand_in_reports<C: Channels + Lanes, D: Board<C>, B: Backend, R: Wait>(
     let mut is_full = false;
     for lane in 0..LANE_COUNT {
         for _ in 0..u64::MAX {
+            // A report that an earlier call could not hand in goes first.
             let kept = state.lasting.take_kept(lane);
-            // `LANE_COUNT` is the most; an office may have fewer lanes.
+            // Else the lane's next report. `LANE_COUNT` is the most; an office may have fewer lanes.
             let next = if kept.is_some() || lane >= office.lanes() {
                 kept
             } else {
@@ -71,6 +75,7 @@ fn is_handed_in<C: Channels + Lanes>(
         .hand_in(FIRST_LANE.saturating_add(lane), now, act_of(&report))
         .is_ok();
     if is_taken {
+        // The roster notes a start that failed, which no letter of the service tells.
         state.lasting.clients.notes.roster.note_report(&report);
     } else if let Some(kept) = state.lasting.kept.get_mut(lane) {
         *kept = Some(report);

@@ -1,4 +1,4 @@
-//! When a run is recorded: at its end, which comes early where somebody waits for a record.
+//! When a run, the steps between two handovers, is recorded: at its end, which comes early where somebody waits for a record.
 use crate::driver_state::DriverState;
 use crate::driving::{drive_run, write_error_lines};
 use crate::ending_services::end_services;
@@ -30,22 +30,26 @@ pub(crate) fn drive_to_end<
     office: &Office<C, D, B>,
     state: &mut DriverState<'_, C>,
 ) -> Option<Result<(), ServeFault>> {
+    // Why the run is driven no more, and whether it was recorded.
     let end = drive_run(context, office, state, errors);
     let recorded = record(context, office, state, &mut settings.recorder);
     match (end, recorded) {
+        // The next run goes on with the tree.
         (RunEnd::Handover, Ok(())) => None,
         (RunEnd::Handover, Err(fault)) => {
             end_services(context, office, state);
+            // What is still to be told about services for which a scan had no room.
             write_error_lines(state.lasting, errors);
             Some(Err(fault))
         }
         (RunEnd::Ended, recorded) => Some(recorded),
+        // The run takes no step more, and something is left to be done in it.
         (RunEnd::Full, _) => Some(Err(ServeFault::Full)),
     }
 }
 
 // Records the run, and tells the connections that wait for it, which `context` reaches. Where memory is refused it is tried again; what
-// connections ask meanwhile is refused. `Record` where the run can't be written.
+// connections ask meanwhile is refused. `Record` where the run can't be written. `state.known` is for proofs alone.
 fn record<C: Channels + Lanes, D: Board<C>, B: Backend, R: Wait + Clock, W: Write + Drop>(
     context: &Context<'_, R>,
     office: &Office<C, D, B>,
@@ -55,11 +59,13 @@ fn record<C: Channels + Lanes, D: Board<C>, B: Backend, R: Wait + Clock, W: Writ
     for _ in context.rt.forever() {
         match recorder.append(context.rt, office, &mut state.known) {
             Ok(()) => {
+                // How many steps the whole record has now: that is told to those who wait.
                 let steps = recorder.steps();
                 state.lasting.clients.tell_recorded(context, steps);
                 return Ok(());
             }
             Err(RecordFault::Write) => break,
+            // After a pause it is tried again.
             Err(RecordFault::NoMemory) => refuse_and_wait(context, state.lasting),
         }
     }

@@ -1,4 +1,4 @@
-//! The runs of a tree, one after the other.
+//! The runs of a tree, one after the other. A run is the steps between two handovers, and has an office of its own, which makes them.
 ghost use Rattle.std.specs.Prelude.{◌≡◌, ℕ, slice_get};
 ghost use Rattle.office.specs.Names.{ring_of, lane_ring_of, asked_of};
 
@@ -59,9 +59,11 @@ pub fn run_all<B: Backend, R: Wait + Clock + Copy + Drop, W: Write + Drop, E: Wr
     first_listing: Found,
 ) -> Result<(), ServeFault> {
     let alloc = context.alloc();
+    // What outlasts each run, beside the tree and the backends: above all the connections.
     let Ok(mut lasting) = Lasting::new(alloc, first_listing, settings.recorder.is_there()) else {
         return Err(ServeFault::NoMemory);
     };
+    // The tree and the backends, from one run to the next.
     let mut between = first_tree(alloc, backends);
     for _ in context.rt.forever() {
         if let Some(done) = run_next(context, settings, errors, log, &mut between, &mut lasting) {
@@ -91,6 +93,7 @@ fn run_next<B: Backend, R: Wait + Clock + Copy + Drop, W: Write + Drop, E: Write
     let Some(before) = between.take() else {
         return Some(Err(ServeFault::NoMemory));
     };
+    // `Again`: memory for the run was refused, so it is tried again.
     match run_once(context, settings, errors, before, lasting) {
         AfterRun::Over(done) => Some(done),
         AfterRun::Again(next) => {
@@ -113,6 +116,7 @@ fn run_once<B: Backend, R: Wait + Clock + Copy + Drop, W: Write + Drop, E: Write
     before: Between<B>,
     lasting: &mut Lasting,
 ) -> AfterRun<B> {
+    // `Brand` names the run's rings and its board, for the proof alone. An office that can't be made gives the tree and the backends back.
     match NewOffice::new(context.alloc(), before.tree, ACTOR_COUNT, before.backends) {
         Ok(office) => run_named::<B, Brand, R, W, E>(context, settings, errors, office, lasting),
         Err((fault, tree, backends)) => {
@@ -132,6 +136,7 @@ fn wait_or_end<B: Drop, R: Wait + Clock>(
     match fault {
         // These numbers stay the same, so a further try would fail too.
         OpenFault::Actors | OpenFault::Lanes => AfterRun::Over(Err(ServeFault::Lanes)),
+        // The first listing is taken by the first run, so there was none yet.
         OpenFault::NoMemory | OpenFault::Board if lasting.first_listing.is_some() => {
             AfterRun::Over(Err(ServeFault::NoMemory))
         }
@@ -178,7 +183,8 @@ fn run_named<
     }
 }
 
-// Runs an open office. The memory for recording and closing the run is taken first.
+// Runs an open office. The memory for recording and closing the run is taken first. `seats` are where inputs are handed in, `readers` read the
+// board, which shows the services' rows, and `known` is for proofs alone. Where the next run follows (`None`), the office is closed.
 fn run_opened<
     C: Channels + Lanes,
     D: Board<C>,
@@ -203,7 +209,9 @@ fn run_opened<
     let Some(reader) = readers.into_iter().next() else {
         return AfterRun::Over(Err(ServeFault::NoMemory));
     };
+    // The steps of the run are counted from 1 again.
     lasting.clients.notes.begin_run();
+    // An empty list with room for what each seat gives at the end of the run.
     let finish_room = take_memory(context, lasting, &mut settings.recorder);
     let pace = Pace::new(settings.handover);
     let mut state = DriverState::new(context.alloc(), seats, reader, known, lasting, pace);
@@ -222,6 +230,7 @@ fn take_memory<C: Channels, R: Wait + Clock, W: Write + Drop>(
 ) -> Vec<Finished<C>> {
     let alloc = context.alloc();
     for _ in context.rt.forever() {
+        // This sets aside the memory for recording.
         if recorder.prepare().is_ok() {
             if let Ok(finish_room) = Vec::with_capacity(alloc, ACTOR_COUNT) {
                 return finish_room;

@@ -1,4 +1,4 @@
-//! What connections ask is begun, or answered from the board.
+//! What connections ask is begun, or answered from the board, which shows the rows of all services. A seat is the number of a connection.
 use crate::driver_state::DriverState;
 use channel_names::Channels;
 use line_server::SEAT_COUNT;
@@ -19,6 +19,7 @@ pub fn begin_all<C: Channels + Lanes, R: Wait>(
     now: u64,
 ) {
     for seat in 0..SEAT_COUNT {
+        // Takes over what the client has asked since the last round, or that it has left.
         state.lasting.clients.hand_over(context, seat);
         begin_some(context, state, seat, now);
         // Takes over what waits by now: the connection may not ring for it again.
@@ -26,13 +27,16 @@ pub fn begin_all<C: Channels + Lanes, R: Wait>(
     }
 }
 
-// Begins what the connection on this seat asks, request after request, as far as that is possible now.
+// Begins what the connection on this seat asks, request after request, as far as that is possible now. An act goes into its ring; an answer is
+// given at once. For a scan the connection joins those who wait for one; for a record the run ends early; `Free` ends a connection whose client
+// has left. After these, or where the ring doesn't take an act, the next request waits for a later round.
 fn begin_some<C: Channels + Lanes, R: Wait>(
     context: &Context<'_, R>,
     state: &mut DriverState<'_, C>,
     seat: usize,
     now: u64,
 ) {
+    // An act that the ring did not take before goes first.
     if let Some(act) = state.lasting.clients.take_held(seat) {
         if !is_submitted(state, seat, now, act) {
             return;

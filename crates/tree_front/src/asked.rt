@@ -1,4 +1,4 @@
-//! Which program a first word names.
+//! Which program the first word behind the program's name names. Clients are the tools that talk to a server.
 ghost use Rattle.std.specs.Prelude.{◌≡◌, codes, false, true};
 ghost use Rattle.std.specs.Str.{bytes_eq};
 ghost use Rattle.tree_front.specs.declared.asked.Program.TheVariants as program;

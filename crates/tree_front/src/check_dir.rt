@@ -51,11 +51,13 @@ fn report_of<R: Files + Copy + Drop>(
     directory: &str,
 ) -> io::Result<(Vec<u8>, bool)> {
     let mut told = Vec::new(alloc);
-    // `told` gets what svscan would write on standard error; only the bad names are taken from it.
+    // `told` gets what svscan would write on standard error; only the bad names are taken from it. A remark is a fault of a service's directory.
     let Found { listing, remarks } = read_listing(rt, alloc, directory, &mut told)?;
     let entries = sorted_entries(alloc, listing.entries())?;
     let mut checked = checked_entries(alloc, remarks.as_slice(), entries.as_slice())?;
+    // Whether a name is no name of a service.
     let is_bad = push_bad_names(&mut checked.text, told.as_slice())?;
+    // Whether a program of a service can't be started.
     let is_idle = add_unexecutable(rt, alloc, directory, entries.as_slice(), &mut checked.text)?;
     Ok((checked.text, checked.is_refused || is_bad || is_idle))
 }
@@ -150,7 +152,8 @@ fn tell_failure<E: Write>(lines: &[u8], errors: &mut E) -> u8 {
     SYSTEM_STATUS
 }
 
-// Tells two lines about the directory, by one write. The exit status, 111.
+// Tells two lines about the directory, by one write: the one for programs says `directory`, the one for people names it, and ends with the
+// sentence. A part that doesn't fit is left out. The exit status, 111.
 fn tell_directory<E: Write>(sentence: &[u8], directory: &str, errors: &mut E) -> u8 {
     let mut told = Told::new();
     let _ = told.try_extend_from_slice(b"svcheck: directory\nsvcheck: ");

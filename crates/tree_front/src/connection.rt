@@ -52,6 +52,7 @@ fn converse<R: Net + Threads, I: Read + Send + Drop + 'static, W: Write>(
     let Ok(mut stream) = UnixStream::connect(rt, path) else {
         return Err(ConnectFault::Socket);
     };
+    // A second descriptor of the connection, for the thread that sends.
     let Ok(theirs) = stream.try_clone() else {
         return Err(ConnectFault::Thread);
     };

@@ -10,6 +10,7 @@ const LAST_STANDARD: i32 = 2;
 /// line could go to a client, or a client's bytes to the record. The system always gives the least number that is free.
 pub fn open_standard<R: Files<File = File>>(rt: &R) {
     for _ in 0..=LAST_STANDARD {
+        // It gets the least number that is free.
         let opened = OpenOptions::new()
             .read(true)
             .write(true)

@@ -159,7 +159,7 @@ fn first_word<R: Env>(rt: &R, alloc: Global) -> io::Result<Option<String>> {
     Ok(env::args(&(rt, alloc))?.nth(1))
 }
 
-// The words behind the name of the program and that of the tool.
+// The words behind the name of the program and that of the tool, which are the first two.
 fn borrowed(alloc: Global, words: &[String]) -> io::Result<Vec<&str>> {
     let mut all = Vec::new(alloc);
     for word in words.iter().skip(2) {

@@ -1,4 +1,4 @@
-//! Printing help texts, and what is told of a word that names no program.
+//! Printing help texts, and what is told of a word that names no program: a line for programs, and one for people.
 ghost use Rattle.std.specs.Prelude.{◌≡◌, ◌++◌, IfOk, option_map};
 ghost use Rattle.tree_front.specs.Usage.{strange_text, strange_words, tools_words};
 
@@ -89,7 +89,8 @@ fn tools_words() -> &'static str
     " is no tool; see s6_tree --help\n"
 }
 
-// The two lines about this word of the command line, which names no program. `word` is None where the command line has no such word.
+// The two lines about this word of the command line, which names no program. `strange_words` has the first line, for programs, and begins the
+// second one, for people, which names the word. `word` is None where the command line has no such word.
 fn told_of(word: Option<&str>) -> Result<Told, CapacityError>
     ensures { IfOk result (λ told. told.items ≡ strange_text (option_map (λ w. w.now) word.entry)) }
 {

@@ -1,4 +1,4 @@
-//! What is told where the system refused memory.
+//! What is told where the system refused memory: a line for programs, and one for people.
 ghost use Rattle.std.specs.Prelude.{◌≡◌, ◌++◌, ◌⊎◌, IfOk, OnOk};
 ghost use Rattle.std.specs.Io.KnownBytes.{Appends};
 ghost use Rattle.s6_replay.specs.Lines.{AppendsFront};
@@ -27,7 +27,7 @@ pub fn tell_no_memory<E: Write>(program: &str, errors: &mut E) -> u8
     SYSTEM_STATUS
 }
 
-// The two lines that tell that the system refused this program memory: one for programs, one for people.
+// The two lines that tell that the system refused this program memory: `no memory` is for programs, the sentence is for people.
 fn no_memory_lines(program: &str) -> Result<Told, CapacityError>
     ensures { IfOk result (λ told. told.items ≡ no_memory_text program.now) }
 {

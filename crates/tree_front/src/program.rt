@@ -80,8 +80,8 @@ pub enum Begun<R: Drop> {
     Tree(BegunTree<R>),
 }
 
-/// Does what the words of the command line ask for; a tree is only begun. Before anything else is opened, each of the descriptors 0, 1 and
-/// 2 that is closed is opened as `/dev/null`.
+/// Does what the words of the command line ask for; a tree is only begun. `run_words` does all but a replay, a connection and a tree, and says
+/// which of these is left to do. Before anything else is opened, each of the descriptors 0, 1 and 2 that is closed is opened as `/dev/null`.
 pub fn begin_program<
     R: Env
         + Net
@@ -137,6 +137,7 @@ fn begin_tree<
 >(rt: R, alloc: Global, root: &str, notes_output: N) -> Result<TreeParts<R>, ServeFault> {
     // The shell that is tried runs beside what follows; `run_tree` asks how it ended.
     let probe = ShellProbe::start(&rt, alloc);
+    // The thread that writes the notes.
     let Some(notes) = start_notes(rt, alloc, notes_output) else {
         return Err(ServeFault::Thread);
     };
@@ -166,11 +167,13 @@ pub fn end_program<R: Processes + Files + Threads + Wait + Clock + Drop>(
     notes: &Notes,
     done: Result<(), ServeFault>,
 ) -> u8 {
+    // The services that still live are killed.
     keeper.end();
     let status = match done {
         Ok(()) => 0,
         Err(fault) => tell_fault(rt, fault, place, &mut NoteWriter::new(rt, notes)),
     };
+    // No further note comes.
     notes.close(rt);
     let _ = notes.await_written(rt, Duration::from_millis(LAST_NOTES_WAIT));
     status

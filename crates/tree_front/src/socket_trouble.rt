@@ -133,7 +133,9 @@ pub fn tell_fault<R: Files, E: Write>(
     ensures { result ≡ 111 }
 {
     let mut told = Told::new();
+    // The line of the fault, for programs.
     let status = tell_serve_fault(fault, &mut told);
+    // It is told only where the fault is that of the socket.
     let trouble = trouble_at(rt, place.socket.as_str());
     let _ = add_second_line(&mut told, fault, trouble, path_of(fault, place));
     let _ = errors.write_all(told.as_slice());

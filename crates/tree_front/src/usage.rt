@@ -1,4 +1,4 @@
-//! What is told of wrong words behind `svscan`, `svcheck`, `connect` or `help`.
+//! What is told of wrong words behind `svscan`, `svcheck`, `connect` or `help`: a line for programs, and one for people.
 ghost use Rattle.std.specs.Prelude.{◌≡◌, ◌++◌, IfOk, OnOk, option_map};
 ghost use Rattle.tree_front.specs.Usage.{advice_text, complaint_of, complaint_text, program_text, usage_text};
 
@@ -37,8 +37,8 @@ fn complaint_of(misuse: Misuse) -> &'static str
     }
 }
 
-// The two lines about wrong words, one for programs and one for people. `word` is the wrong word, if one is, and `form` how the words have to be
-// given.
+// The two lines about wrong words. `add_first_line` makes the one for programs and begins the one for people; `add_complaint` adds to this what is
+// wrong, and `add_advice` what would be right. `word` is the wrong word, if one is, and `form` how the words have to be given.
 fn told_of(
     program: &str,
     misuse: Misuse,

@@ -1,4 +1,5 @@
-//! A tree that runs, from its first scan to its end.
+//! A tree that runs, from its first scan to its end: its threads are started and ended here. The driver is the one that makes the tree's steps.
+//! A lane is a queue of orders to a thread that starts and signals processes; notes are lines for standard error, which another thread writes.
 use crate::options::ServeOptions;
 use crate::service_lanes::TreeLanes;
 use crate::threads::{DriverParts, start_driver, start_lane};
@@ -36,9 +37,9 @@ struct Parts {
     recorder: Recorder<BufWriter<File>>,
 }
 
-/// Runs a tree of the services of a directory, and serves clients on a socket, until the tree has ended. Its threads live from its first
-/// run to its last. Faults of service directories are noted, and so is each new run. No service is started, and no record is touched,
-/// before `probe` has found that `/bin/sh` runs, by which signals are sent. Page `s6-svscan`.
+/// Runs a tree of the services of a directory, and serves clients on a socket, until the tree has ended. Its threads live from its first run to
+/// its last: a run is the tree's steps between two handovers. Faults of service directories are noted, and so is each new run. No service is
+/// started, and no record is touched, before `probe` has found that `/bin/sh` runs, by which signals are sent. Page `s6-svscan`.
 pub fn run_tree<
     B: Backend + Send,
     K: Backend + Send,
@@ -51,9 +52,11 @@ pub fn run_tree<
     options: ServeOptions<'_>,
     notes: &Notes,
 ) -> Result<(), ServeFault> {
+    // `file` is the file of the socket, which is removed at the end.
     let Ok((listener, file)) = listen(rt, alloc, options.socket) else {
         return Err(ServeFault::Socket);
     };
+    // Where this fails, no service was started.
     match prepare(rt, alloc, probe, options, notes) {
         Ok(parts) => serve(rt, listener, file, parts, lanes, options, notes),
         Err(fault) => {
@@ -63,7 +66,10 @@ pub fn run_tree<
     }
 }
 
-// Makes all that is needed before a service is started. The error says what could not be made or read: `NoMemory` where memory was refused.
+// Makes all that is needed before a service is started: the listing for the first scan, the recorder, which writes the runs into the file of the
+// record, if there is one, and what the threads share. Of that, `callers` have what connections ask of the driver, `scans` is where the driver
+// asks for a reading of the scan directory, `rows` is what was last read for statuses, and `driver` is the bell that wakes the driver. `seats` say
+// who is connected. What is written to `errors` becomes notes. The error says what could not be made or read: `NoMemory` where memory was refused.
 fn prepare<R: Files<File = File> + Wait + Clock + Copy + Drop>(
     rt: &R,
     alloc: Global,
@@ -118,9 +124,11 @@ fn fault_of(error: &io::Error, fault: ServeFault) -> ServeFault {
     }
 }
 
-// Serves the tree in threads, and reads its scan directory in this one, until the tree has ended. Each of the `links` carries the orders of a
-// lane to the lane's thread, and its reports back. The error says why the tree did not run to its end: `Socket` where the system refused a
-// further descriptor of the listener, `Thread` where a thread could not be started.
+// Serves the tree in threads, and reads its scan directory in this one (`attend`), until the tree has ended. Each of the `links` carries the
+// orders of a lane to the lane's thread, and its reports back. The driver's thread takes over `driver`, and notes in `outcome` how the tree has
+// ended. What is written to `errors` becomes notes; once all threads run, `tell_serving` writes that clients can connect. The error says why the
+// tree did not run to its end: `Socket` where the system refused a further descriptor of the listener, `Thread` where a thread could not be
+// started.
 fn serve<
     B: Backend + Send,
     K: Backend + Send,
@@ -172,7 +180,7 @@ fn serve<
             tell_serving(server.answers(), options.socket, &mut errors);
             attend(rt, server.answers(), options.directory, &mut errors);
         }
-        // The listener is still open, as `remove` asks.
+        // All threads run, and the tree has ended; or one of them could not be started. The listener is still open, as `remove` asks.
         file.remove(rt, options.socket);
         end_all(rt, &server, links.as_slice());
     });
@@ -189,8 +197,8 @@ fn tell_serving<E: Write>(shared: &Shared, socket: &str, errors: &mut E) {
     }
 }
 
-// Starts all threads of a tree but this one: for each lane one, with the lane's link and its worker, the one that accepts connections, and the
-// driver. Returns whether all of them run.
+// Starts all threads of a tree but this one: for each lane one, with the lane's link, by which orders come and reports go back, and its worker,
+// which carries them out; the one that accepts connections; and the driver. Returns whether all of them run.
 fn start_all<'s, S, B, K, W, R>(
     scope: &Scope<'s, S>,
     rt: &'s R,

@@ -18,8 +18,8 @@ pub struct TreeLanes<B, K> {
 /// The lanes of services that are processes.
 pub type ServiceLanes<R> = TreeLanes<LinkedBackend<R>, ProcessBackend<R>>;
 
-/// Makes the lanes of services that lie under `root`. This keeper starts the threads of their children. What can't be started or signalled
-/// is noted. `NoMemory` where memory is refused.
+/// Makes the lanes of services that lie under `root`. A lane is a queue of orders to a thread that starts and signals processes. The keeper starts
+/// the threads that watch the processes. What can't be started or signalled is noted. `NoMemory` where memory is refused.
 pub fn open_service_lanes<R: Wait + Copy + Drop>(
     rt: R,
     alloc: Global,
@@ -33,6 +33,7 @@ pub fn open_service_lanes<R: Wait + Copy + Drop>(
         workers: Vec::new(alloc),
     };
     for _ in 0..LANE_COUNT {
+        // It starts and signals the processes.
         let worker = ProcessBackend::new(rt, alloc, keeper, root, notes)?;
         add_lane(rt, alloc, &mut lanes, worker)?;
     }
@@ -47,6 +48,7 @@ fn add_lane<R: Wait + Copy + Drop>(
     lanes: &mut ServiceLanes<R>,
     worker: ProcessBackend<R>,
 ) -> Result<(), NoMemory> {
+    // The worker's bell wakes the lane's thread.
     let link = Arc::new(alloc, LaneLink::new(alloc, worker.bell()?))?;
     lanes.workers.push(worker)?;
     lanes.backends.push(LinkedBackend::new(rt, alloc, &link)?)?;

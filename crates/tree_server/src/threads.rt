@@ -1,6 +1,6 @@
-//! The eleven threads of a tree, from its first run to its last. Here are the driver and the four lanes. The thread that began reads the scan
-//! directory (`serve.rt`), one accepts connections (`connecting.rt` of server_threads), two have the last seat (`accepting.rt` of line_server),
-//! one keeps the children (`keeper.rt` of child_runner), and one writes notes (`writing.rt` of error_notes).
+//! The eleven threads of a tree. Here are the driver, which makes the tree's steps, and those of the four lanes, which carry out orders.
+//! The thread that began reads the scan directory (`serve.rt`), one accepts connections (`connecting.rt` of server_threads), two have the last seat
+//! (`accepting.rt` of line_server), one keeps the children (`keeper.rt` of child_runner), and one writes notes (`writing.rt` of error_notes).
 use child_runner::{LaneLink, serve_lane};
 use error_notes::{NoteWriter, Notes};
 use line_server::Server;
@@ -63,9 +63,11 @@ fn drive_all<B: Backend, W: Write + Drop, R: Wait + Clock + Copy + Drop>(
         first_listing,
         mut settings,
     } = parts;
+    // What is written to these two becomes notes: lines for standard error, which another thread writes.
     let log = NoteWriter::new(rt, notes);
     let mut errors = NoteWriter::new(rt, notes);
     let context = Context { rt, server };
+    // This takes as long as the tree lives.
     let done = run_all(
         &context,
         &mut settings,
@@ -100,5 +102,6 @@ where
 // Carries out the orders of a lane to the end of the tree.
 fn carry_out<K: Backend, R: Wait + Clock>(rt: &R, shared: &Shared, link: &LaneLink, worker: K) {
     let mut worker = worker;
+    // The driver's bell is rung when there is a report, or room for orders again.
     serve_lane(rt, link, &shared.driver, &mut worker);
 }

@@ -16,7 +16,8 @@ pub enum Failure {
     Unsupervised,
 }
 
-/// Whether the newest of a service's s and x is an x, after one more mark, if there is one.
+/// Whether the supervisor of a service has ended, after one more mark, if there is one: the newest of its marks s and x is an x. `ended` is whether
+/// it had before.
 pub fn next_ended(mark: Option<Mark>, ended: bool) -> bool
     ensures { result ≡ ended_after mark ended }
 {
@@ -27,7 +28,8 @@ pub fn next_ended(mark: Option<Mark>, ended: bool) -> bool
     }
 }
 
-/// Whether the newest of a service's u and O is an O, after one more mark, if there is one.
+/// Whether a service has failed for good and was not started since, after one more mark, if there is one: the newest of its marks u and O is an O.
+/// `failed` is whether it had before.
 pub fn next_failed(mark: Option<Mark>, failed: bool) -> bool
     ensures { result ≡ failed_after mark failed }
 {

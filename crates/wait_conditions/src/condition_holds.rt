@@ -1,4 +1,5 @@
-//! Whether a condition holds of a service. When one fails is in `condition_fails.rt`.
+//! Whether a condition holds of a service. Its current letter, the newest of its marks u, U, d and D, says whether it is up, ready or down. When a
+//! condition fails is in `condition_fails.rt`.
 ghost use Rattle.std.specs.Prelude.{◌≡◌};
 ghost use Rattle.wait_conditions.specs.Holds.{suits, holds_at};
 

@@ -1,4 +1,5 @@
-//! The counters of a waiter, by which `verdict.rt` gives its verdict.
+//! The counters of a waiter, by which `verdict.rt` gives its verdict: of how many of its services the condition holds, of how many it fails (is
+//! given up), and of how many of these for good.
 ghost use Rattle.std.specs.Prelude.{◌≡◌, ◌≤◌, [], map, length, false, is_some};
 ghost use Rattle.s6_events.specs.Newest.{mark_of};
 ghost use Rattle.wait_conditions.specs.Counts.{recounted, counts_after, counts_of};
@@ -18,7 +19,7 @@ pub struct Counts {
     pub permanent: usize,
 }
 
-// A counter once one service has changed: whether it was counted before, and whether it is now.
+// A counter once one service has changed. `was`: the service was counted before; `now`: it is to be counted now.
 fn recount(count: usize, was: bool, now: bool) -> usize
     requires { count ≤ 16 }
     ensures { result ≡ recounted count was now }
@@ -64,7 +65,7 @@ impl Counts {
         }
     }
 
-    // The counters once one more service has joined.
+    // The counters once one more service, which was not counted before, has joined.
     fn with(self, joining: &WatchedService) -> Counts
         requires holding { self.holding ≤ 16 }
         requires failing { self.failing ≤ 16 }
@@ -95,7 +96,7 @@ pub fn count_all(watched: &[WatchedService]) -> Counts
     counts
 }
 
-/// Each service takes in the moment. Returns the counters after it.
+/// Each service that the waiter watches takes in the moment. Returns the counters after it.
 pub fn watch_all(
     watched: &mut [WatchedService],
     counts: Counts,
@@ -111,6 +112,7 @@ pub fn watch_all(
     let mut counts = counts;
     for i in 0..watched.len() {
         let was = watched[i];
+        // The service after its mark, if the moment is a mark of it.
         let now = was.after(condition, mark_in(was.sid, moment));
         counts = counts.after(&was, &now);
         watched[i] = now;

@@ -16,7 +16,7 @@ pub fn deadline_for(timeout: u32, start: At) -> Option<u64>
     }
 }
 
-/// Whether a moment is a clock reading at or past the deadline.
+/// Whether a moment is a clock reading at or past the deadline. A mark of a service moves no clock.
 pub fn reaches_deadline(deadline: u64, moment: &Moment) -> bool
     ensures { result ≡ reaches deadline moment.now }
 {

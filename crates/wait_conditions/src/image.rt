@@ -60,7 +60,8 @@ impl<A: Allocator> Model for WaitsImage<A> {
     ghost view = { λ w. record { count = w.count; states = w.states.items; waiters = w.waiters.items; next = w.next } };
 }
 
-// A waiter as plain data.
+// A waiter as plain data: what it was made with, what it knows of its services, and its state (`standing`). `place` is how many moments had come
+// when it was made.
 fn image_of<A: Allocator + Copy>(alloc: A, waiter: &Waiter) -> Result<WaiterImage<A>, NoMemory>
     ensures { IfOk result (λ image. image ≡ waiter_view waiter.now) }
 {

@@ -1,4 +1,5 @@
-//! A step of the waiters, worked out on copies of those that its moments touch (`copy_touched`).
+//! A step of the waiters, worked out on copies of those that its moments (clock readings, and marks of services) touch: they wait, and a mark is of
+//! one of their services or the clock reaches their deadline.
 ghost use Rattle.std.specs.Prelude.{◌≡◌, ◌++◌, [], ◌∷◌, All, map, filter, if◌then◌else◌, IfOk, OnOk, IsOk};
 ghost use Rattle.s6_events.specs.Rising.{AreRising};
 ghost use Rattle.wait_conditions.specs.Kept.{waiter_view, with_moments, releases_seen};
@@ -63,7 +64,7 @@ fn copy_among_all<A: Allocator>(
     Ok(copies)
 }
 
-// Copies of the waiters that watch this service; `watchers` has their serials, which rise.
+// Copies of the waiters that watch this service; `watchers` has their serials, which rise, as those of `waiters` do.
 fn copy_watching<A: Allocator>(
     alloc: A,
     waiters: &[Waiter],
@@ -81,6 +82,7 @@ fn copy_watching<A: Allocator>(
     let mut copies = Vec::new(alloc);
     let mut start = 0;
     for watcher in watchers {
+        // The place of that waiter, which is not before `start`.
         let place = place_from(waiters, start, watcher.waiter);
         push_copy(&mut copies, &waiters[place])?;
         // The serials rise, so that the next waiter is behind this one.
@@ -89,8 +91,9 @@ fn copy_watching<A: Allocator>(
     Ok(copies)
 }
 
-/// Copies of the waiters that these moments touch: those that wait, where a moment is a mark of one of their services or reaches their
-/// deadline. No waiter that waits has a deadline before `due`.
+/// Copies of the waiters that these moments touch: those that wait, where a moment is a mark of one of their services or reaches their deadline.
+/// `reach_of` tells which may be touched: none, those that `watchers` lists for one service, or any. No waiter that waits has a deadline before
+/// `due`.
 pub fn copy_touched<A: Allocator>(
     alloc: A,
     waiters: &[Waiter],
@@ -114,7 +117,7 @@ pub fn copy_touched<A: Allocator>(
     }
 }
 
-/// The serials of these waiters.
+/// The serials of these waiters, in the same order.
 pub fn list_serials<A: Allocator>(alloc: A, waiters: &[Waiter]) -> Result<Vec<WaitId, A>, NoMemory>
     ensures serials { IfOk result
         (λ serials. serials.items ≡ map (λ k. k.id) (waiters_view waiters.now)) }
@@ -140,13 +143,14 @@ pub fn release_all<A: Allocator + Copy>(
 {
     let mut released = Vec::new(alloc);
     for moment in moments {
+        // Each waiter is released at most once, so that the releases of this moment have room.
         released.reserve(waiters.len())?;
         take_in_all(waiters, moment, &mut released);
     }
     Ok(released)
 }
 
-/// A copy of the moments, in the memory of `spare`, which is left with none.
+/// A copy of the moments, in the memory of `spare`: the list of an earlier step, which is left with none.
 pub fn keep_moments<A: Allocator + Copy>(
     spare: &mut Vec<Moment, A>,
     moments: &[Moment],

@@ -1,4 +1,4 @@
-//! Which waiters some moments may touch, told without a look at any waiter.
+//! Which waiters some moments (clock readings, and marks of services) may touch, told without a look at any waiter: their reach.
 ghost use Rattle.std.specs.Prelude.{◌≡◌, []};
 ghost use Rattle.wait_conditions.specs.Reach.{with_service, TouchWithin};
 ghost use Rattle.wait_conditions.specs.declared.reach.Reach.TheVariants as reach;
@@ -14,7 +14,7 @@ pub enum Reach {
 }
 
 impl Reach {
-    // The reach with one more mark, of this service.
+    // The reach with one more mark, of this service: marks of two services may touch any waiter.
     fn with_service(self, sid: Sid) -> Reach
         ensures { result ≡ with_service sid self }
     {

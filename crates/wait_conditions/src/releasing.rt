@@ -1,4 +1,4 @@
-//! Waiters that take in moments, and the releases that these bring.
+//! Waiters that take in moments (clock readings, and marks of services), and the releases that these bring: a waiter waits no longer.
 ghost use Rattle.std.specs.Prelude.{◌≡◌, ◌==◌, ◌≤◌, ◌+◌, ◌-◌, ◌++◌, ◌∷◌, ℕ, All, Bool, List, not, length, map, filter, drop, vec_len, vec_capacity, option_to_list, if◌then◌else◌};
 ghost use Rattle.std.specs.List.{filter_map};
 ghost use Rattle.s6_events.specs.Rising.{AreRising};
@@ -76,8 +76,8 @@ pub fn is_touched_by_any(waiter: &Waiter, moments: &[Moment]) -> bool
     moments.iter().any(|moment| is_touched(waiter, moment))
 }
 
-// The place of the first waiter whose serial is not below `id`: that of `id` itself, where there is one. Its clause speaks of a waiter
-// that is the first to pass some test, whatever the test is.
+// The place of the first waiter whose serial is not below `id`: that of `id` itself, where there is one. The serials rise. Its clause speaks of a
+// waiter that is the first to pass some test, whatever the test is.
 fn place_in(waiters: &[Waiter], id: WaitId) -> usize
     requires { AreRising (map (λ k. k.id) (waiters_view waiters.now)) }
     ensures bound { result ≤ length waiters.now }
@@ -88,7 +88,7 @@ fn place_in(waiters: &[Waiter], id: WaitId) -> usize
     waiters.partition_point(|waiter| waiter.id.0 < id.0)
 }
 
-/// As `place_in`, but only the waiters from `start` on are looked at.
+/// The place of the waiter with the serial `id`, or of the first one above it, where only the waiters from `start` on are looked at.
 pub fn place_from(waiters: &[Waiter], start: usize, id: WaitId) -> usize
     requires start { start ≤ length waiters.now }
     requires rising { AreRising (map (λ k. k.id) (waiters_view waiters.now)) }
@@ -112,7 +112,7 @@ fn take_in_moments(waiter: &mut Waiter, moments: &[Moment])
     }
 }
 
-// A waiter takes in these moments; where they release it, it is taken out of `watchers`.
+// A waiter takes in these moments; where they release it, it watches no service any more, and is taken out of `watchers`.
 fn change<A: Allocator>(waiter: &mut Waiter, watchers: &mut Watchers<A>, moments: &[Moment])
     requires { IsCounted waiter.old }
     ensures waiter { waiter_view waiter.new ≡ with_moments moments.now (waiter_view waiter.old) }

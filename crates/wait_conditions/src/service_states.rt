@@ -1,4 +1,5 @@
-//! What is known of every service, for waiters to come.
+//! What is known of every service, for waiters to come: kept in runs of neighbouring serials of which the same is known. Each run has its last
+//! serial, and goes from behind the run before it up to that one.
 ghost use Rattle.std.specs.Prelude.{◌≡◌, ◌==◌, ◌≤◌, ◌<◌, ◌+◌, ◌-◌, ◌*◌, ◌++◌, [], ◌∷◌, ℕ, true, false, length, take, drop, slice_get, slice_set, nat_le, nat_lt, vec_len, vec_capacity, if◌then◌else◌, IsOk, IfSome, IsSomeAnd, OnOk, OnErr};
 ghost use Rattle.std.specs.List.{list_all, list_any, remove};
 ghost use Rattle.s6_events.specs.Newest.{mark_of};
@@ -34,7 +35,8 @@ impl<A: Allocator> Model for ServiceStates<A> {
     ghost view = { λ s. record { runs = s.runs.items; spare_capacity = vec_capacity s.runs - vec_len s.runs } };
 }
 
-// What the runs say of a service.
+// What the runs say of a service: the first run that reaches up to its serial says it. Of one behind the last run the same is known as of a service
+// with no mark.
 fn state_of_service(runs: &[StateRun], sid: Sid) -> SupervisorState
     ensures { result ≡ state_in runs.now sid }
 {
@@ -79,7 +81,7 @@ fn says_the_same(run: StateRun, after: StateRun) -> bool
     run.last.0 <= after.last.0 && run.state == after.state
 }
 
-// Whether the run at this place reaches no further than the one before it.
+// Whether the run at this place reaches no further than the one before it, so that it has no serial of its own.
 fn is_covered(runs: &[StateRun], place: usize) -> bool
     requires { place < length runs.now }
     ensures same { result ≡ true → (sid : ℕ) →
@@ -113,7 +115,8 @@ fn ends_with(run: StateRun, last: u64) -> bool
     run.last.0 == last
 }
 
-// Whether the run before this place ends with the serial just below this one, or there is no such serial.
+// Whether the run before this place ends with the serial just below this one, or there is no such serial: then the run at this place begins with
+// this serial.
 fn is_reached_below(runs: &[StateRun], place: usize, sid: Sid) -> bool
     requires { place ≤ length runs.now }
     ensures below { result ≡ true → (other : ℕ) → other < sid
@@ -235,7 +238,7 @@ impl<A: Allocator + Copy> ServiceStates<A> {
         }
     }
 
-    /// Makes room for this many more moments. `NoMemory` where memory is refused: nothing has changed then.
+    /// Makes room for the runs that this many more moments may add. `NoMemory` where memory is refused: nothing has changed then.
     pub fn reserve(&mut self, moments: usize) -> Result<(), NoMemory>
         ensures runs { self.new.runs ≡ self.old.runs }
         ensures ok { OnOk result (2 * moments ≤ self.new.spare_capacity) }
@@ -270,7 +273,7 @@ impl<A: Allocator> ServiceStates<A> {
         state
     }
 
-    /// Takes in one more moment; there is room for it.
+    /// Takes in one more moment: a mark may change what is known of its service, a clock reading nothing. There is room for it.
     pub fn take_in(&mut self, moment: &Moment)
         requires { 2 ≤ self.old.spare_capacity }
         ensures states { (sid : ℕ) → state_in self.new.runs sid
@@ -297,7 +300,7 @@ impl<A: Allocator> ServiceStates<A> {
         }
     }
 
-    // Sets what is known of this service; there is room for that.
+    // Sets what is known of this service, and takes out runs that are then not needed; there is room for that.
     fn put(&mut self, sid: Sid, state: SupervisorState)
         requires { 2 ≤ self.old.spare_capacity }
         ensures states { (other : ℕ) → state_in self.new.runs other
@@ -347,7 +350,7 @@ impl<A: Allocator> ServiceStates<A> {
         }
     }
 
-    // Takes out the run at this place, if it says the same as the next one.
+    // Takes out the run at this place, if it says the same as the next one, which then covers its serials.
     fn drop_repeated(&mut self, place: usize)
         ensures states { (sid : ℕ) → state_in self.new.runs sid ≡ state_in self.old.runs sid }
         ensures room { self.old.spare_capacity ≤ self.new.spare_capacity }
@@ -357,7 +360,7 @@ impl<A: Allocator> ServiceStates<A> {
         }
     }
 
-    // Takes out the run at this place, if it is not needed.
+    // Takes out the run at this place, if without it the same is known of each service.
     fn drop_redundant(&mut self, place: usize)
         ensures states { (sid : ℕ) → state_in self.new.runs sid ≡ state_in self.old.runs sid }
         ensures room { self.old.spare_capacity ≤ self.new.spare_capacity }

@@ -32,7 +32,7 @@ pub fn mark_in(sid: Sid, moment: &Moment) -> Option<Mark>
     }
 }
 
-// The current letter of a service after one more mark, if there is one, where it was `letter` before.
+// The current letter of a service (the newest of its marks u, U, d and D) after one more mark, if there is one, where it was `letter` before.
 fn next_letter(mark: Option<Mark>, letter: Mark) -> Mark
     ensures { result ≡ letter_after mark letter }
 {
@@ -53,7 +53,7 @@ fn next_spawned(mark: Option<Mark>, spawned: bool) -> bool
 }
 
 impl SupervisorState {
-    /// What is known of a service with no mark.
+    /// What is known of a service with no mark: its current letter is D, as of one that is down with `finish` done.
     pub fn unseen() -> SupervisorState
         ensures { result ≡ state_of 0 [] }
     {
@@ -63,7 +63,7 @@ impl SupervisorState {
         }
     }
 
-    /// What is known after one more mark, if there is one.
+    /// What is known of a service after one more mark, if there is one: its current letter, and whether its supervisor has ended.
     pub fn after(self, mark: Option<Mark>) -> SupervisorState
         ensures { result ≡ state_after mark self }
     {
@@ -75,7 +75,7 @@ impl SupervisorState {
 }
 
 impl SinceState {
-    /// What is known where no moment has come yet.
+    /// What is known of a service since a waiter was made, where no moment has come yet: it was not started, and did not fail.
     pub fn fresh() -> SinceState
         ensures { result ≡ since_of 0 [] }
     {
@@ -85,7 +85,8 @@ impl SinceState {
         }
     }
 
-    /// What is known after one more mark, if there is one.
+    /// What is known of a service since a waiter was made, after one more mark, if there is one: whether it was started, and whether it failed for
+    /// good.
     pub fn after(self, mark: Option<Mark>) -> SinceState
         ensures { result ≡ since_after mark self }
     {

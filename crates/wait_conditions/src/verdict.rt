@@ -27,7 +27,7 @@ pub enum WaitState {
     Released(Verdict),
 }
 
-// Whether the condition holds of as many services as the mode asks for.
+// Whether the condition holds of as many services as the mode asks for: of all, or of one. `services` is how many the waiter has.
 fn is_enough(counts: Counts, mode: Mode, services: usize) -> bool
     ensures { result ≡ count_is_enough mode services counts.holding }
 {
@@ -37,7 +37,7 @@ fn is_enough(counts: Counts, mode: Mode, services: usize) -> bool
     }
 }
 
-// Whether the condition fails of so many services that it can't hold any more of as many as the mode asks for.
+// Whether the condition fails (is given up) of so many services that it can't hold any more of as many as the mode asks for: all, or one.
 fn is_hopeless(counts: Counts, mode: Mode, services: usize) -> bool
     ensures { result ≡ count_is_hopeless mode services counts.failing }
 {
@@ -55,6 +55,7 @@ pub fn verdict_of(counts: Counts, mode: Mode, services: usize, late: bool) -> Wa
     if is_enough(counts, mode, services) {
         WaitState::Released(Verdict::Held)
     } else if is_hopeless(counts, mode, services) {
+        // A service failed for good; else it is given up only since supervisors have ended.
         if counts.permanent > 0 {
             WaitState::Released(Verdict::Failed)
         } else {

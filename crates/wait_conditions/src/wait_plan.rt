@@ -65,7 +65,7 @@ impl<A: Allocator> WaitsPlan<A> {
 }
 
 impl<A: Allocator + Copy> WaitsPlan<A> {
-    /// The plan of these moments alone, where there is no waiter: nobody is touched.
+    /// The plan of these moments alone, where there is no waiter: nobody is touched or released. `next` is the serial of the next new waiter.
     pub(crate) fn of_nobody(moments: Vec<Moment, A>, next: u64) -> WaitsPlan<A>
         ensures { result ≡ record {
           released = [];
@@ -97,7 +97,7 @@ pub(crate) struct ChangePlan<A: Allocator> {
 }
 
 impl<A: Allocator> ChangePlan<A> {
-    /// A plan in which the list of waiters stays as it is.
+    /// A plan in which the list of waiters stays as it is. `next` is the serial of the next new waiter.
     pub(crate) fn stay(answer: WaitAnswer, next: u64) -> ChangePlan<A>
         ensures answer { result.answer ≡ answer }
         ensures change { result.change ≡ Stay }

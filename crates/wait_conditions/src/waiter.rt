@@ -1,4 +1,4 @@
-//! A waiter as it is stored: what it knows of its services, and what a moment makes of it.
+//! A waiter as it is stored: what it knows of its services, and what a moment (a clock reading, or a mark of a service) makes of it.
 ghost use Rattle.std.specs.Prelude.{◌≡◌, ◌==◌, ◌≤◌, [], length, map};
 ghost use Rattle.std.specs.List.{list_any};
 ghost use Rattle.wait_conditions.specs.Kept.{waiter_view, still_waits, late_at, concerns, watched_then, judged, with_moment};
@@ -78,7 +78,7 @@ pub fn is_touched(waiter: &Waiter, moment: &Moment) -> bool
     waits_still(waiter) && is_concerned(waiter, moment)
 }
 
-// The waiter's services take in the moment.
+// The waiter's services take in the moment, and it counts anew of how many its condition holds or fails.
 fn watch(waiter: &mut Waiter, moment: &Moment)
     requires { IsCounted waiter.old }
     ensures waiter { waiter_view waiter.new ≡ record (waiter_view waiter.old)
@@ -93,7 +93,7 @@ fn watch(waiter: &mut Waiter, moment: &Moment)
     );
 }
 
-// The waiter takes the verdict by its counters, and forgets its services where that releases it.
+// The waiter takes the verdict by its counters, and forgets its services where that releases it. `late`: its deadline has come.
 fn judge(waiter: &mut Waiter, late: bool)
     requires { IsCounted waiter.old }
     ensures waiter { waiter_view waiter.new ≡ judged late (waiter_view waiter.old) }
@@ -142,7 +142,7 @@ pub fn copy_of(waiter: &Waiter) -> Waiter
     }
 }
 
-// What is known of these services after some moments.
+// What is known of these services after some moments (`moments`) that `states` has not taken in yet. No mark has come since the waiter was made.
 fn watch_services<A: Allocator>(
     condition: Condition,
     sids: &[Sid],
@@ -161,7 +161,8 @@ fn watch_services<A: Allocator>(
     watched
 }
 
-/// A waiter that is made once `place` moments have come. `states` has not taken in yet the last ones of these, which are `moments`.
+/// A waiter that is made once `place` moments have come. `states`, what is known of every service, has not taken in yet the last ones of these,
+/// which are `moments`.
 pub fn new_waiter<A: Allocator>(
     id: WaitId,
     place: u64,
@@ -190,6 +191,7 @@ pub fn new_waiter<A: Allocator>(
         counts,
         standing: WaitState::Waiting,
     };
+    // It may be released at once; a deadline is never reached then.
     judge(&mut waiter, false);
     waiter
 }

@@ -31,7 +31,8 @@ fn has_repeat(sids: &[Sid]) -> bool
     false
 }
 
-/// Why a waiter for these services is refused, where there are `standing` waiters already; None where it is not refused.
+/// Why a waiter for the services of these serials is refused, where there are `standing` waiters already (released ones too); None where it is not
+/// refused.
 pub fn refusal_for(standing: usize, sids: &[Sid]) -> Option<AddFault>
     ensures { result ≡ add_refusal standing sids.now }
 {

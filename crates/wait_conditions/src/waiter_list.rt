@@ -1,4 +1,5 @@
-//! The waiters that stand, in the order in which they were made.
+//! The waiters that stand, in the order in which they were made; which of them watch which service (`watchers`); and a moment before which no
+//! deadline of those that wait lies (`due`).
 ghost use Rattle.std.specs.Prelude.{◌≡◌, ◌≤◌, ◌<◌, ◌++◌, [], ◌∷◌, All, IfOk, IsOk, OnOk, OnErr, None, false, true, length, map, filter, vec_len, vec_capacity};
 ghost use Rattle.std.specs.List.{list_any};
 ghost use Rattle.wait_conditions.specs.Kept.{waiter_view, standing_stored, standing_kept, is_other, oldest_place, still_waits, with_moments};
@@ -82,7 +83,8 @@ impl<A: Allocator> WaiterList<A> {
         earliest_deadline(&self.waiters)
     }
 
-    /// Makes room for one more waiter. `NoMemory` where memory is refused: the waiters, and how many more fit, are then as before.
+    /// Makes room for one more waiter, and for the 16 services that it may watch. `NoMemory` where memory is refused: the waiters, and how many
+    /// more fit, are then as before.
     pub fn reserve_one(&mut self) -> Result<(), NoMemory>
         ensures waiters { self.new.waiters ≡ self.old.waiters }
         ensures ok { OnOk result (1 ≤ self.new.spare) }
@@ -102,6 +104,7 @@ impl<A: Allocator> WaiterList<A> {
         requires place { All (λ k. k.place ≤ waiter.place) self.old.waiters }
         ensures { self.new.waiters ≡ self.old.waiters ++ waiter_view waiter ∷ [] }
     {
+        // Still no waiter that waits has a deadline before `due`.
         self.due = earlier(self.due, waiter.deadline);
         self.watchers.join(&waiter);
         self.waiters.push_reserved(waiter);
@@ -121,7 +124,7 @@ impl<A: Allocator> WaiterList<A> {
         self.push(Box::into_inner(waiter));
     }
 
-    /// Takes the waiter of this serial out, if there is one.
+    /// Takes the waiter of this serial out, if there is one; it watches no service any more.
     pub fn remove(&mut self, id: WaitId)
         ensures { self.new.waiters ≡ filter (is_other id) self.old.waiters }
     {
@@ -149,7 +152,7 @@ impl<A: Allocator> WaiterList<A> {
 }
 
 impl<A: Allocator + Copy> WaiterList<A> {
-    /// A list with no waiter.
+    /// A list with no waiter, in which no service is watched. `due`, before which no deadline lies, is the greatest number, since there is none.
     pub fn new(alloc: A) -> WaiterList<A>
         ensures { result.waiters ≡ [] }
     {
@@ -172,7 +175,8 @@ impl<A: Allocator + Copy> WaiterList<A> {
         images_of(alloc, &self.waiters)
     }
 
-    /// Copies of the waiters that these moments touch.
+    /// Copies of the waiters that these moments touch: those that wait, where a moment is a mark of one of their services or reaches their
+    /// deadline.
     pub fn copy_touched(&self, moments: &[Moment]) -> Result<Vec<Waiter, A>, NoMemory>
         ensures copies { IfOk result (λ copies. waiters_view copies.items
             ≡ filter (touched_by moments.now) self.now.waiters) }
@@ -226,7 +230,7 @@ fn find_standing(waiters: &[Waiter], id: WaitId) -> Option<WaitState>
     find_stored(waiters, id)
 }
 
-// As `find_standing`, for the proof: its clause speaks of the waiters as stored.
+// The state of the waiter of this serial; None where there is none. For the proof: its clause speaks of the waiters as stored.
 fn find_stored(waiters: &[Waiter], id: WaitId) -> Option<WaitState>
     ensures { result ≡ standing_stored id waiters.now }
 {
@@ -251,7 +255,7 @@ fn oldest_of(waiters: &[Waiter]) -> Option<u64>
     None
 }
 
-/// The place of the oldest, or the end where there is none.
+/// The place in the history of the oldest waiter that waits, or the end where there is none: `count` moments have come.
 pub fn place_or_end(oldest: Option<u64>, count: u64) -> u64
     ensures { result ≡ place_or_end oldest count }
 {

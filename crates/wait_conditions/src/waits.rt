@@ -1,4 +1,4 @@
-//! The waiters of all services.
+//! The waiters of all services (`list`), and what is known of every service for new ones (`states`).
 ghost use Rattle.std.specs.Prelude.{◌≡◌, ◌≤◌, ◌<◌, ◌+◌, ◌*◌, ◌^◌, [], ◌∷◌, IfOk, IfErr, IsOk, OnOk, OnErr, IsOkAnd, All, None, ℕ, is_some, length, map, filter};
 ghost use Rattle.std.specs.List.{filter_map};
 ghost use Rattle.wait_conditions.specs.Kept.{waiter_view, standing_stored, standing_kept, is_other, lower, oldest_place, NoneBegan, release_seen, releases_seen};
@@ -76,6 +76,7 @@ impl<A: Allocator + Copy> Waits<A> {
         ensures serials { result.next ≡ 1 }
     {
         Waits {
+            // How many moments have come.
             count: 0,
             states: ServiceStates::new(alloc),
             list: WaiterList::new(alloc),
@@ -91,7 +92,7 @@ impl<A: Allocator + Copy> Waits<A> {
         self.stored_result(id)
     }
 
-    // As `result`, for the proof: its clause speaks only of what is stored.
+    // The state of the waiter of this serial; None where there is none. For the proof: its clause speaks only of what is stored.
     fn stored_result(&self, id: WaitId) -> Option<WaitState>
         ensures { result ≡ standing_kept id self.now.waiters }
     {
@@ -118,7 +119,7 @@ impl<A: Allocator + Copy> Waits<A> {
         self.stored_deadline()
     }
 
-    // As `next_deadline`, for the proof: its clause speaks only of what is stored.
+    // The earliest deadline of the waiters that wait still. For the proof: its clause speaks only of what is stored.
     fn stored_deadline(&self) -> Option<u64>
         ensures { result ≡ earliest (map stored_until self.now.waiters) }
     {
@@ -168,7 +169,7 @@ impl<A: Allocator + Copy> Waits<A> {
         self.admit(condition, mode, sids, timeout, start)
     }
 
-    // As `add`, for the proof: its clauses speak only of what is stored.
+    // Makes a waiter that begins here, or answers why not. For the proof of `add`: its clauses speak only of what is stored.
     fn admit(
         &mut self,
         condition: Condition,
@@ -221,7 +222,8 @@ impl<A: Allocator + Copy> Waits<A> {
         self.take_moment(moment)
     }
 
-    // As `moment`, for the proof: its clauses speak only of what is stored.
+    // Takes in the next moment: first on copies, since memory may be refused, then for good. For the proof of `moment`: its clauses speak only of
+    // what is stored.
     fn take_moment(&mut self, moment: &Moment) -> Result<Vec<(WaitId, Verdict), A>, NoMemory>
         ensures ok { IfOk result (λ released.
             (released.items ≡ filter_map (release_seen moment.now) self.old.waiters)
@@ -256,7 +258,7 @@ impl<A: Allocator + Copy> Waits<A> {
         stood
     }
 
-    // As `cancel`, but it returns nothing, for the proof: its clause speaks only of what is stored.
+    // Takes the waiter of this serial out, if there is one. For the proof of `cancel`: its clause speaks only of what is stored.
     fn take_out(&mut self, id: WaitId)
         ensures { CancelsWaiter (waits_shown self.old) (waits_shown self.new) id }
     {
@@ -289,7 +291,7 @@ impl<A: Allocator + Copy> Waits<A> {
         self.prepare_stored(moments, change)
     }
 
-    // As `prepare`, for the proof: its clauses speak only of what is stored.
+    // Works out a step, which `commit` makes. For the proof of `prepare`: its clauses speak only of what is stored.
     #[inline(always)]
     fn prepare_stored(
         &mut self,
@@ -318,7 +320,7 @@ impl<A: Allocator + Copy> Waits<A> {
         self.prepare_any(moments, change)
     }
 
-    // `prepare_stored`, whichever waiters there are. It is a function of its own, since most steps find no waiter.
+    // Works out a step on copies of the waiters that it touches. It is a function of its own, since most steps find no waiter.
     #[inline(never)]
     fn prepare_any(
         &mut self,
@@ -372,7 +374,7 @@ impl<A: Allocator + Copy> Waits<A> {
         Ok(())
     }
 
-    // Plans the change of a step, after these moments.
+    // Plans the change of a step, after these moments: a waiter to be made or ended. `next` is the serial of the next new waiter.
     #[inline(always)]
     fn plan_change(
         &self,
@@ -439,6 +441,7 @@ impl<A: Allocator + Copy> Waits<A> {
             return Ok(ChangePlan::stay(WaitAnswer::Refused(fault), self.next));
         }
         let id = WaitId(self.next);
+        // How many moments will have come when it is made.
         let place = self.count + moments.len() as u64;
         let deadline = deadline_for(timeout, start);
         let waiter = new_waiter(
@@ -470,7 +473,7 @@ impl<A: Allocator + Copy> Waits<A> {
         self.make(plan);
     }
 
-    // As `commit`, for the proof: its clause speaks only of what is stored.
+    // Makes the step of a plan, without taking memory. For the proof of `commit`: its clause speaks only of what is stored.
     #[inline(always)]
     fn make(&mut self, plan: WaitsPlan<A>)
         requires { FitsWaits plan self.old }

@@ -19,7 +19,8 @@ pub struct WatchedService {
 }
 
 impl WatchedService {
-    /// The service of this serial, of which all marks say `state`, and those since the waiter was made say `since`.
+    /// The service of this serial, of which all marks say `state`, and those since the waiter was made say `since`. From these follows whether the
+    /// condition holds of it, and if not, why it is given up (`failure`), if it is.
     pub fn new(
         condition: Condition,
         sid: Sid,
@@ -43,7 +44,7 @@ impl WatchedService {
         }
     }
 
-    /// The same after one more mark of the service, if there is one.
+    /// The service after one more mark of it, if there is one.
     pub fn after(self, condition: Condition, mark: Option<Mark>) -> WatchedService
         ensures { result ≡ watched_after condition mark self }
     {
@@ -61,6 +62,7 @@ impl WatchedService {
 
 /// What fills the unused places of a list of fixed size.
 impl Default for WatchedService {
+    // What fills the unused places of a list of fixed size: nobody reads it.
     fn default() -> WatchedService {
         WatchedService {
             sid: Sid(0),

@@ -1,4 +1,4 @@
-//! Which waiters watch which service.
+//! Which waiters watch which service: a list of pairs of both serials, in the order of the services, and for one service in that of the waiters.
 ghost use Rattle.std.specs.Prelude.{◌≡◌, ◌==◌, ◌≤◌, ◌+◌, ◌++◌, [], ◌∷◌, ℕ, false, not, map, filter, length, if◌then◌else◌, IsOk, OnOk, OnErr};
 ghost use Rattle.wait_conditions.specs.Kept.{waiter_view};
 ghost use Rattle.wait_conditions.specs.Refusal.{repeats_serial};
@@ -56,7 +56,7 @@ impl<A: Allocator> Watchers<A> {
         Ok(())
     }
 
-    /// The watchers of this service, in rising serial of the waiters.
+    /// The watchers of this service, in rising serial of the waiters: they lie side by side, and are found by halves.
     pub fn of(&self, sid: Sid) -> &[Watcher]
         ensures { map (λ w. w.waiter) result.now ≡ serials_of sid self.now.watchers }
     {
@@ -66,7 +66,7 @@ impl<A: Allocator> Watchers<A> {
         &low[start..]
     }
 
-    // Adds a watcher of this service, after all others of it; there is room for it.
+    // Adds a watcher of this service, at the end of those of that service; there is room for it.
     fn put(&mut self, sid: Sid, waiter: WaitId)
         requires { 1 ≤ self.old.spare_capacity }
         ensures serials { (other : ℕ) → serials_of other self.new.watchers
