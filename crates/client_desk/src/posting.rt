@@ -66,7 +66,7 @@ impl ClientDesk {
         seat: usize,
         subject: &Subject,
     ) {
-        // States are told only where the board shows the last step, and the roster has noted it.
+        // States are told only where the board shows the last of the `made` steps of the run, and the roster has noted it.
         if !self.notes.tells_of(subject, board.made, board.is_shown) {
             return self.post_answer(context, seat, OwnAnswer::NoMemory.text());
         }

@@ -62,7 +62,8 @@ impl<F: Finds, A: Allocator> Model for Directory<F, A> {
 }
 
 impl<F: Finds, A: Allocator + Copy> Directory<F, A> {
-    /// A directory with no subscription: of its text no letter is heard yet (`heard`), and there is no plan of letters.
+    /// A directory with no subscription. `text` has the letters that its subscriptions have heard, and after them those that are prepared; `heard`
+    /// counts the first. `planned` has the letters of a plan that waits to be committed. There are none of all these.
     pub fn new(alloc: A) -> Directory<F, A>
         ensures none { result.standing ≡ [] }
         ensures planned { result.planned ≡ [] }

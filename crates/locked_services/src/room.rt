@@ -57,7 +57,7 @@ fn keep<N: Whole, C: Channels + Lanes, R: Wait>(
     requires longer { IsPrefix history.old (inputs_of running.now.steps) }
     ensures { history.new ≡ inputs_of running.now.steps }
 {
-    // For the proof: its clause `sound` says what holds of the steps.
+    // For the proof alone: the clause `sound` of `RunningTree::steps` says what holds of the steps.
     let _steps = running.steps();
     history.extend::<N, R>(rt);
 }
@@ -96,7 +96,7 @@ impl<C: Channels + Lanes, D: Board<C>> Room<C, D> {
             D.shots board ≡ shot_of (end_of m running.steps) ∷ [] }
         ensures { result ≡ record { running = running; shots = D.shots board; is_shown = true } }
     {
-        // For the proof: there is a machine for which its tree stands.
+        // For the proof alone: the clauses of `RunningTree::steps` say that there is a machine for which its tree stands.
         let _steps = running.steps();
         Room {
             running,

@@ -99,7 +99,7 @@ impl<C: Channels + Lanes> RunningTree<C> {
             run,
             effect,
         } = beginning;
-        // For the proof: there is a machine for which the tree stands.
+        // For the proof alone: the contract of `now` says that there is a machine for which the tree stands.
         let _clock = tree.now();
         RunningTree {
             alloc,
@@ -170,7 +170,7 @@ impl<C: Channels + Lanes> RunningTree<C> {
         // The tree makes the step, and fills `effect` with all that it gave.
         self.tree.apply_in_place(input, effect)?;
         self.held = None;
-        // For the proof: a list of orders has no more than `ORDER_LIMIT`, for which each lane has room.
+        // For the proof alone: the contract of `len` says that there are at most `ORDER_LIMIT` orders, for which each lane has room.
         let _count = effect.orders.len();
         send_all(&mut self.lanes, effect.orders.as_slice());
         self.run.add(kept, effect);

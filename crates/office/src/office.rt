@@ -106,10 +106,11 @@ impl<C: Channels + Lanes, D: Board<C>, B: Backend> Office<C, D, B> {
         ensures told { IsTold C.opening known.new (λ v. Stops result.stop v.running) }
     {
         let mut room = self.room.lock(rt);
+        // For the proof alone: all inputs that were done become known.
         room.show(rt, known);
         let driven = room.drive(rt, most);
         room.show(rt, known);
-        // For the proof: the steps are a legal history, as the clause `sound` says.
+        // For the proof alone: the clause `sound` of `Room::steps` says that the steps are a legal history.
         let _steps = room.steps();
         driven
     }
@@ -120,7 +121,7 @@ impl<C: Channels + Lanes, D: Board<C>, B: Backend> Office<C, D, B> {
             × (result ≡ inputs_of v.running.steps) }
     {
         let mut room = self.room.lock(rt);
-        // For the proof: the steps are a legal history, as the clause `sound` says.
+        // For the proof alone: the clause `sound` of `Room::steps` says that the steps are a legal history.
         let _steps = room.steps();
         room.history()
     }
@@ -144,8 +145,9 @@ impl<C: Channels + Lanes, D: Board<C>, B: Backend> Office<C, D, B> {
         ensures rising { NeverFalls result }
     {
         let mut room = self.room.lock(rt);
+        // For the proof alone: all inputs that were done become known.
         room.show(rt, known);
-        // For the proof: the steps are a legal history, as the clause `sound` says.
+        // For the proof alone: the clause `sound` of `Room::steps` says that the steps are a legal history.
         let _steps = room.steps();
         room.tell()
     }
@@ -162,8 +164,9 @@ impl<C: Channels + Lanes, D: Board<C>, B: Backend> Office<C, D, B> {
             (λ reply. reply ≡ reply_at ticket.actor ticket.number v.running.steps)) }
     {
         let mut room = self.room.lock(rt);
+        // For the proof alone: all inputs that were done become known.
         room.show(rt, known);
-        // For the proof: the steps are a legal history, as the clause `sound` says.
+        // For the proof alone: the clause `sound` of `Room::steps` says that the steps are a legal history.
         let _steps = room.steps();
         room.reply(ticket)
     }
@@ -180,8 +183,9 @@ impl<C: Channels + Lanes, D: Board<C>, B: Backend> Office<C, D, B> {
             (λ effect. option_map (λ e. outcome_of e) effect ≡ outcome_at number v.running.steps)) }
     {
         let mut room = self.room.lock(rt);
+        // For the proof alone: all inputs that were done become known.
         room.show(rt, known);
-        // For the proof: the steps are a legal history, as the clause `sound` says.
+        // For the proof alone: the clause `sound` of `Room::steps` says that the steps are a legal history.
         let _steps = room.steps();
         room.effect(number)
     }
@@ -201,8 +205,9 @@ impl<C: Channels + Lanes, D: Board<C>, B: Backend> Office<C, D, B> {
             (λ source. IsStepOf source (outcome_of effect.new) number v.running.steps)) }
     {
         let mut room = self.room.lock(rt);
+        // For the proof alone: all inputs that were done become known.
         room.show(rt, known);
-        // For the proof: the steps are a legal history, as the clause `sound` says.
+        // For the proof alone: the clause `sound` of `Room::steps` says that the steps are a legal history.
         let _steps = room.steps();
         room.step(number, effect)
     }
@@ -213,8 +218,9 @@ impl<C: Channels + Lanes, D: Board<C>, B: Backend> Office<C, D, B> {
         ensures told { IsTold C.opening known.new (λ v. result ≡ actor_at number v.running.steps) }
     {
         let mut room = self.room.lock(rt);
+        // For the proof alone: all inputs that were done become known.
         room.show(rt, known);
-        // For the proof: the steps are a legal history, as the clause `sound` says.
+        // For the proof alone: the clause `sound` of `Room::steps` says that the steps are a legal history.
         let _steps = room.steps();
         room.actor(number)
     }
@@ -225,8 +231,9 @@ impl<C: Channels + Lanes, D: Board<C>, B: Backend> Office<C, D, B> {
         ensures told { IsTold C.opening known.new (λ v. result ≡ moment_at number v.running.steps) }
     {
         let mut room = self.room.lock(rt);
+        // For the proof alone: all inputs that were done become known.
         room.show(rt, known);
-        // For the proof: the steps are a legal history, as the clause `sound` says.
+        // For the proof alone: the clause `sound` of `Room::steps` says that the steps are a legal history.
         let _steps = room.steps();
         room.moment(number)
     }
@@ -237,6 +244,7 @@ impl<C: Channels + Lanes, D: Board<C>, B: Backend> Office<C, D, B> {
         ensures told { IsTold C.opening known.new (λ v. result ≡ length v.running.steps) }
     {
         let mut room = self.room.lock(rt);
+        // For the proof alone: all inputs that were done become known.
         room.show(rt, known);
         room.steps()
     }
@@ -257,8 +265,9 @@ impl<C: Channels + Lanes, D: Board<C>, B: Backend> Office<C, D, B> {
             (W.contents writer.old) (W.contents writer.new))) }
     {
         let mut room = self.room.lock(rt);
+        // For the proof alone: all inputs that were done become known.
         room.show(rt, known);
-        // For the proof: the steps are a legal history, as the clause `sound` says.
+        // For the proof alone: the clause `sound` of `Room::steps` says that the steps are a legal history.
         let _steps = room.steps();
         room.write_run(head, writer)
     }
@@ -270,8 +279,9 @@ impl<C: Channels + Lanes, D: Board<C>, B: Backend> Office<C, D, B> {
             → StandsFor v.running.opening m → result ≡ has_ended (end_of m v.running.steps)) }
     {
         let mut room = self.room.lock(rt);
+        // For the proof alone: all inputs that were done become known.
         room.show(rt, known);
-        // For the proof: the steps are a legal history, as the clause `sound` says.
+        // For the proof alone: the clause `sound` of `Room::steps` says that the steps are a legal history.
         let _steps = room.steps();
         room.ended()
     }
@@ -283,8 +293,9 @@ impl<C: Channels + Lanes, D: Board<C>, B: Backend> Office<C, D, B> {
             → StandsFor v.running.opening m → result ≡ next_due (end_of m v.running.steps)) }
     {
         let mut room = self.room.lock(rt);
+        // For the proof alone: all inputs that were done become known.
         room.show(rt, known);
-        // For the proof: the steps are a legal history, as the clause `sound` says.
+        // For the proof alone: the clause `sound` of `Room::steps` says that the steps are a legal history.
         let _steps = room.steps();
         room.next_due()
     }
@@ -334,8 +345,9 @@ impl<C: Channels + Lanes, D: Board<C>, B: Backend> Office<C, D, B> {
         } = spare.into_inner();
         let (locks, desks) = unlock_all(desks, room_of_desks);
         let mut room = room.into_inner();
+        // For the proof alone: all inputs that were done become known.
         room.show(rt, known);
-        // For the proof: the steps are a legal history, as the clause `sound` says.
+        // For the proof alone: the clause `sound` of `Room::steps` says that the steps are a legal history.
         let _steps = room.steps();
         match room.close(desks, backends, finishes) {
             Ok(closed) => Ok(closed),

@@ -87,7 +87,7 @@ impl Run {
         ensures { self.new.steps ≡ self.old.steps
             ++ record { input = I.input input; outcome = outcome_of effect.old } ∷ [] }
     {
-        // The step comes at the log's end.
+        // By this list of its own an actor's step is found again in the log, at whose end the step comes.
         self.places[usize::from(input.actor().number())].push(self.log.len());
         self.log.push(input, effect);
     }
@@ -199,6 +199,7 @@ impl Run {
         let mut effect = Effect::new(alloc);
         for place in 0..self.log.len() {
             let stored = self.log.look(place);
+            // Only a fault names it: it is not written.
             let number = place as u64 + 1;
             if let Err(fault) = write_stored(
                 alloc,

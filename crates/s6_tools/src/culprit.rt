@@ -1,5 +1,6 @@
-//! Finds the wrong word of a command line. A clue says where to look: at a place, or for the first, second or only word of a kind (`Wrong`).
-//! Places are counted from 0, behind the socket's path. Two clues are tried, one after the other.
+//! Finds the wrong word of a command line. A clue says where to look: at a place (`At`), at a place if the word there is of a kind (`AtIf`), or for
+//! the first, second or only word of a kind (`Wrong`; `Plain` is no option). Places are counted from 0, behind the socket's path. Two clues are
+//! tried, one after the other.
 ghost use Rattle.std.specs.Prelude.{◌≡◌, ◌<◌, ◌≤◌, IfSome, codes, length, map, option_map, position, slice_get};
 ghost use Rattle.std.specs.List.{find};
 ghost use Rattle.std.specs.Str.{bytes_eq};
@@ -256,6 +257,7 @@ fn subject_clues(tool: Tool) -> (Clue, Clue)
 {
     match tool {
         Tool::Svc => (Clue::First(Wrong::Plain), Clue::Nowhere),
+        // The name stands first, or behind `-o` and its list of fields.
         Tool::Svstat => (Clue::AtIf(0, Wrong::Plain), Clue::AtIf(2, Wrong::Plain)),
         Tool::Svscanctl | Tool::Record => (Clue::Nowhere, Clue::Nowhere),
         Tool::Svwait | Tool::Svlisten | Tool::List | Tool::Follow => {

@@ -87,7 +87,7 @@ impl NewBoard {
         }
     }
 
-    // Puts a history together again in which nothing was published.
+    // Puts a new board together again, on which nothing was published: the count of its shots, and the history, which exists in proofs alone.
     fn again<C: Channels>(word: Count, published: Published<C>) -> NewBoard
         requires word { word ≡ count_of C.board }
         requires published { published ≡ [] }
@@ -130,7 +130,7 @@ where
 }
 
 impl<C: Channels, R: Wait + Drop, A: Allocator + Copy> BoardWriter<C, R, A> {
-    // The history of a board on which nothing was published.
+    // A new board again, from a writer that has published nothing: the count of its shots, and the history, which exists in proofs alone.
     fn into_new(self) -> NewBoard
         requires { self ≡ [] }
         ensures { result ≡ C.board }
@@ -167,12 +167,14 @@ impl<C: Channels, R: Wait + Drop, A: Allocator + Copy> BoardWriter<C, R, A> {
         if self.handle.append(theirs).is_err() {
             return Err(NoMemory);
         }
-        // All memory is there. There is one writer, so what it knows of the history is all of it; the shot is added to a copy of that.
+        // All memory is there. What the writer knows of the board's history (`published`, for proofs alone) is all of it, since there is one
+        // writer. The shot is added to a copy of that.
         let mut published = self.published.copied();
         if !published.add(&self.word, &rows) {
             // This would come only after 2^64 - 1 shots.
             return Err(NoMemory);
         }
+        // The writer keeps one copy, with this shot; the other goes to the readers, with the rows.
         self.published = published.copied();
         // The place is new, so this sets it.
         let _set = next.try_set(Change::new(rows, published));

@@ -74,7 +74,7 @@ impl KeptInput for PlainInput<Global> {
         self.actor
     }
 
-    // Adds the code of its step, if that has one, and returns whether it has.
+    // Adds the code of its step, the bytes in which a run keeps it, and returns true; false where the step has none, and is kept as it is.
     fn push_step(&self, code: &mut Vec<u8>, effect: &Effect<Global>) -> Result<bool, AllocError> {
         push_step(code, self, effect)
     }
@@ -104,7 +104,7 @@ impl KeptInput for ToldInput {
         self.actor
     }
 
-    // Adds the code of its step, if that has one, and returns whether it has.
+    // Adds the code of its step, the bytes in which a run keeps it, and returns true; false where the step has none, and is kept as it is.
     #[inline(always)]
     fn push_step(&self, code: &mut Vec<u8>, effect: &Effect<Global>) -> Result<bool, AllocError> {
         push_told_step(code, self, effect)

@@ -1,4 +1,4 @@
-//! The codes of replies, and of what they hold: refusals and rows.
+//! The codes of replies, and of what they hold: refusals (`Refusal` of tree_core says what each means) and rows.
 ghost use Rattle.std.specs.Prelude.{◌≡◌, ℕ, List, IsTrue, OnOk};
 ghost use Rattle.std.specs.declared.alloc.Global.{Global};
 ghost use Rattle.tree_core.specs.declared.reply.Reply.{Reply};

@@ -59,9 +59,10 @@ pub fn change<A: Allocator + Copy>(
     ensures room { slots.new.room ≡ slots.old.room }
 {
     let place = place_of(slots, sid)?;
+    // A copy of the service's state and status, in which the change is made.
     let mut standing = *slots.nth(place)?.standing();
     let out = standing.change(change, now);
-    // The service takes over its changed state, and the death that the change reported, if it did.
+    // The service takes over the changed copy, and the death that the change reported, if it did.
     slots.adopt(place, &standing, change.counted_death(out.stale, now));
     Some(out)
 }
