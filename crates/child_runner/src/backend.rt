@@ -170,7 +170,8 @@ impl<R: Processes<Started = SystemProcess> + Files + Wait + Drop> ProcessBackend
         }
     }
 
-    // Starts the child. Returns it, and the pipe by which its output is read; None where it can't be started.
+    // Starts the child. Returns it, and the pipe by which its output is read, if it is to be (`is_read`), as where the service tells by it that it
+    // is ready. None where the child can't be started.
     fn spawn(&self, launch: &mut Launch) -> Option<(Child<SystemProcess>, Option<Pipe>)> {
         if !is_executable(&self.rt, launch.path.as_str()) {
             return None;
@@ -277,7 +278,8 @@ impl<R: Processes<Started = SystemProcess> + Files + Wait + Drop> ProcessBackend
     }
 
     // Carries out an order: starts the `run` or the `finish` of a service, or sends a signal to one that still lives. `Busy` where no signal can
-    // be sent now, `NoMemory` where memory is refused: then the order is to be asked again.
+    // be sent now, `NoMemory` where memory is refused: then the order is to be asked again. A `Start` names one start of a program: by the
+    // service's serial, the generation, and which of the two programs it is.
     fn carry_out(&mut self, order: &Order) -> Result<(), AskFault>
         ensures added { OnOk result (self.new ≡ with_asked order.now self.old) }
         ensures same { OnErr result (self.new ≡ self.old) }

@@ -160,6 +160,7 @@ impl Progress {
             Stage::Starting => None,
             // It is the child's last report: the backend drops the child then.
             Stage::Failed => Some(Report::StartFailed(start.sid, start.generation)),
+            // It lives under this process number: its start is reported now.
             Stage::Fresh(pid) => {
                 self.stage = Stage::Living;
                 Some(Report::Started(start.sid, start.generation, pid))

@@ -100,7 +100,7 @@ impl ChildList {
         }
     }
 
-    /// A number that no child of this roster has.
+    /// A number that no child of this roster has. By it a backend names the child that it starts next.
     pub fn take_number<R: Wait>(&self, rt: &R) -> u64 {
         let mut entries = self.entries.lock(rt);
         let number = entries.next_number;

@@ -100,6 +100,7 @@ impl ServiceProcess {
     pub fn end_signal<R: Wait>(&self, rt: &R) {
         self.progress.lock(rt).end_signal();
         self.changed.notify_all();
+        // The child's end, which is not reported while a shell is under way, may be reported now.
         self.bell.ring(rt);
     }
 
@@ -149,6 +150,7 @@ impl ServiceProcess {
             .wait_timeout_while(rt, progress, time, |known| !known.may_end());
         progress.end(exit);
         drop(progress);
+        // Wakes those that wait for a change of `progress`; the bell tells the backend that it has a report.
         self.changed.notify_all();
         self.bell.ring(rt);
     }

@@ -51,6 +51,7 @@ pub(crate) fn signal_child<R: Processes + Wait>(
     process: &ServiceProcess,
     signal: u8,
 ) -> Result<Sending, AskFault> {
+    // None where the child never lived, or was waited for, so that its process number may be that of another process by now.
     let Some(pid) = process.begin_signal(rt) else {
         return Ok(Sending::Done);
     };
@@ -72,6 +73,7 @@ fn run_kill<R: Processes>(
     };
     match command.spawn(rt) {
         Ok(mut shell) => Ok(sending_of(shell.wait())),
+        // The shell isn't there, or may not be run.
         Err(error) if is_lasting(&error) => Ok(Sending::NoShell),
         Err(_) => Err(AskFault::Busy),
     }

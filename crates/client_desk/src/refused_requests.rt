@@ -38,6 +38,7 @@ impl ClientDesk {
                 }
             }
         }
+        // So what was posted is written.
         self.wake_all(context);
     }
 

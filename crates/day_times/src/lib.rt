@@ -23,7 +23,7 @@ pub fn day_millisecond(millis: u64) -> Option<DayText> {
 
 // The time of day `millis` milliseconds after the beginning of 1970, with `places` decimals of a second; None past the year 9999.
 fn day_text(millis: u64, places: u8) -> Option<DayText> {
-    // There is no instant, and so no text, past the year 9999.
+    // There is no instant, and so no text, past the year 9999. `MILLISECOND` is a millisecond in nanoseconds.
     let instant = Timestamp::from_nanosecond(i128::from(millis) * MILLISECOND).ok()?;
     // It prints this many decimals of a second.
     let printer = DateTimePrinter::new().precision(Some(places));

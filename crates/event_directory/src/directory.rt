@@ -410,6 +410,7 @@ fn forget<F: Finds, A: Allocator + Copy>(
     ensures text { text.new.items ≡ last_letters result text.old.items }
     ensures left { result ≡ greatest_offset (map standing_of_stored subscriptions.now) }
 {
+    // How many letters, from the end of the text, live subscriptions need.
     let left = greatest_offset(subscriptions);
     let gone = text.len() - left;
     drop_front(text, gone);

@@ -72,6 +72,7 @@ impl<C: Channels> Drain<C> {
         ensures none { IfNone result ((self.new.taken ≡ self.old.taken) × (self.new.seen ≡ [])) }
         ensures succeeds { 0 < length self.old.seen → IsSome result }
     {
+        // `take_into` puts the input here, where the ring has one.
         let mut held = None;
         if self.take_into(&mut held) {
             held

@@ -49,6 +49,7 @@ impl Ring {
     fn open(alloc: Global, actor: Actor) -> Result<Ring, NoMemory>
         ensures { IfOk result (λ r. r.actor ≡ actor) }
     {
+        // The seat pushes submissions at the one end, and the tree pops them at the other.
         let (producer, consumer) = RingBuffer::new(alloc, PLACES)?;
         Ok(Ring {
             actor,
@@ -144,8 +145,10 @@ impl<C: Channels> Seat<C> {
     {
         Seat {
             actor,
+            // How many submissions were handed in.
             count: 0,
             producer,
+            // It names the run in proofs, and has no bytes.
             channels: PhantomData,
         }
     }

@@ -144,6 +144,7 @@ impl<W: Answers> Server<W> {
     ) -> Result<bool, AllocError> {
         // `own` is the handle of the seat, and `read` that of the thread that reads.
         let (own, read) = (mailbox.clone()?, mailbox.clone()?);
+        // The connection counts as silent from this moment on.
         if !self.seats.lock(rt).take_last(own, millis_of(rt)) {
             return Ok(false);
         }
@@ -185,12 +186,13 @@ impl<W: Answers> Server<W> {
         self.changed.notify_all();
     }
 
-    // Gives up the spare descriptor. Returns whether there was one.
+    // Gives up the spare descriptor, so that a connection can be accepted for which the system has none left. Returns whether there was one.
     fn give_up_spare<R: Wait>(&self, rt: &R) -> bool {
         self.spare.lock(rt).take().is_some()
     }
 
-    // Takes a spare descriptor again, if it was given up and the system has one.
+    // Takes a spare descriptor again, if it was given up and the system has one. It is given up again where a connection can't be accepted for want
+    // of a descriptor.
     pub(crate) fn keep_spare<R: Wait>(&self, rt: &R) {
         let mut spare = self.spare.lock(rt);
         if spare.is_none() {

@@ -144,6 +144,7 @@ impl<C: Channels + Lanes, D: Board<C>> Room<C, D> {
         if stop == Stop::Done {
             // The board shows the state before this step.
             self.is_shown = false;
+            // For the proof alone: the history takes in what was done.
             keep::<Brand, C, R>(rt, &mut self.history, &self.running);
         }
         stop
@@ -268,6 +269,7 @@ impl<C: Channels + Lanes, D: Board<C>> Room<C, D> {
         if driven.steps > 0 {
             // The board shows the state before these steps.
             self.is_shown = false;
+            // For the proof alone: the history takes in what was done.
             keep::<Brand, C, R>(rt, &mut self.history, &self.running);
         }
         driven
@@ -292,6 +294,7 @@ impl<C: Channels + Lanes, D: Board<C>> Room<C, D> {
             self.new.running }
         ensures shown { result.stop ≢ ended.NoMemory → self.new.is_shown ≡ true }
     {
+        // `is_shown`: the present state is the last that was published.
         if !self.is_shown && self.publish().is_err() {
             return Driven {
                 steps: 0,
@@ -333,7 +336,8 @@ impl<C: Channels + Lanes, D: Board<C>> Room<C, D> {
         self.running.next_due()
     }
 
-    // Why the run can't be closed with these desks and finishes; None where it can be.
+    // Why the run can't be closed with these desks and finishes; None where it can be. A finish is what is left of a seat that has ended. At a
+    // lane's desk its backend is asked the orders.
     fn close_fault<B: Backend>(
         &mut self,
         desks: &mut Vec<Desk<B, C>>,
@@ -366,7 +370,8 @@ impl<C: Channels + Lanes, D: Board<C>> Room<C, D> {
 
     /// Closes the run, where there is just one finish for each seat, all that was submitted was done, and all orders were asked. `desks`
     /// are those of the lanes, in the order of the lanes' numbers; `backends` is an empty list with room for the desks' backends. At a
-    /// fault all comes back as it was, except that more may have been seen of what is in the rings. It takes no memory.
+    /// fault all comes back as it was, except that more may have been seen of what is in the rings. It takes no memory. A finish is what is left of
+    /// a seat that has ended.
     pub fn close<B: Backend>(
         self,
         desks: Vec<Desk<B, C>>,

@@ -108,6 +108,7 @@ impl<C: Channels + Lanes> RunningTree<C> {
             run,
             effect,
             drains,
+            // The input that was taken from a ring and whose step is not made yet: none.
             held: None,
             lanes,
         }
@@ -169,6 +170,7 @@ impl<C: Channels + Lanes> RunningTree<C> {
         let effect = &mut *self.effect;
         // The tree makes the step, and fills `effect` with all that it gave.
         self.tree.apply_in_place(input, effect)?;
+        // The input is done.
         self.held = None;
         // For the proof alone: the contract of `len` says that there are at most `ORDER_LIMIT` orders, for which each lane has room.
         let _count = effect.orders.len();
@@ -358,7 +360,8 @@ impl<C: Channels + Lanes> RunningTree<C> {
         self.run.write(self.alloc, head, writer)
     }
 
-    // Why the run can't be closed with these finishes, by its inputs alone; None where these allow it.
+    // Why the run can't be closed with these finishes, by its inputs alone; None where these allow it. A finish is what is left of a seat that has
+    // ended.
     fn input_fault(&mut self, finishes: &mut Vec<Finished<C>>) -> Option<CloseFault>
         ensures same { IsSameRunning self.old self.new }
         ensures lanes { self.new.lanes ≡ self.old.lanes }
@@ -376,7 +379,8 @@ impl<C: Channels + Lanes> RunningTree<C> {
         input_fault(&mut self.drains, finishes, is_held)
     }
 
-    // Whether the desks are just those of the lanes, in the order of their numbers, and each backend was asked all orders of its lane.
+    // Whether the desks are just those of the lanes, in the order of their numbers, and each backend was asked all orders of its lane. At a lane's
+    // desk its backend is asked the orders.
     fn is_served<B: Backend>(&mut self, desks: &mut Vec<Desk<B, C>>) -> bool
         ensures same { IsSameRunning self.old self.new }
         ensures desks { AreSameDesks desks.old.items desks.new.items }
@@ -388,7 +392,8 @@ impl<C: Channels + Lanes> RunningTree<C> {
         are_served(&mut self.lanes, desks)
     }
 
-    /// Why the run can't be closed with these desks and finishes; None where it can be. Missing finishes are looked for first.
+    /// Why the run can't be closed with these desks and finishes; None where it can be. Missing finishes are looked for first. A finish is what is
+    /// left of a seat that has ended. At a lane's desk its backend is asked the orders.
     pub fn close_fault<B: Backend>(
         &mut self,
         desks: &mut Vec<Desk<B, C>>,

@@ -13,6 +13,7 @@ fn is_served<B: Backend, L: Lanes>(number: usize, lane: &mut Lane<L>, desk: &mut
     ensures no { result ≡ false
         → IsServed L.asked_before number (Some lane.old) (Some desk.old) → ⊥ }
 {
+    // A desk at a wrong place is that of another lane: it tells nothing of this one.
     if lane.number() != number || desk.lane() != number {
         return false;
     }

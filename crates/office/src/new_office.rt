@@ -119,9 +119,11 @@ impl<B: Drop> NewOffice<B> {
         let Ok(rings) = new_rings(alloc, actors) else {
             return Err((OpenFault::NoMemory, tree, backends));
         };
+        // A ring of orders for each backend.
         let Ok(lane_rings) = open_lane_rings(alloc, backends.len()) else {
             return Err((OpenFault::NoMemory, tree, backends));
         };
+        // For proofs: the history of the inputs that the run will do.
         let Ok(history) = NewHistory::new(alloc) else {
             return Err((OpenFault::NoMemory, tree, backends));
         };

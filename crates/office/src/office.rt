@@ -84,6 +84,7 @@ impl<C: Channels + Lanes, D: Board<C>, B: Backend> Office<C, D, B> {
         Office {
             room: Mutex::new(room),
             desks,
+            // Behind a lock, since threads share the office; only `close` takes them.
             spare: Mutex::new(spare),
         }
     }
@@ -322,7 +323,9 @@ impl<C: Channels + Lanes, D: Board<C>, B: Backend> Office<C, D, B> {
     /// Closes the run, once each seat has finished and all threads that used the office have returned. Returns the tree, how many steps it
     /// made, these steps, and the backends, in the order of their lanes. Where each office was opened on the tree that the one before gave
     /// back, they are one run (`locked_services::laws::chain`). `Room::close` says what a close needs, and what it leaves. All inputs that
-    /// were done become known. At a fault the office and the finishes come back. It takes no lock and no memory.
+    /// were done become known. At a fault the office and the finishes come back. It takes no lock and no memory. The desks are taken out of their
+    /// locks into a list that was made for that when the office was opened (`Spare`); at a fault they are put back behind locks, and that list is
+    /// empty again. A finish is what is left of a seat that has ended.
     pub fn close<R: Wait>(
         self,
         rt: &R,

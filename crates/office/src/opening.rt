@@ -46,7 +46,8 @@ struct Parts<C: Channels + Lanes, D: Board<C>, B: Backend> {
 }
 
 // Makes the parts for which memory is taken. `C` gives the rings and the board their names. `NoMemory` where memory is refused, `Board`
-// where the board gives no reader.
+// where the board gives no reader. `beginning` is what the running tree begins with, `ends` has the seats and the tree's ends of their rings, and
+// `spare` has lists that the close of the office fills.
 fn make_parts<C: Channels + Lanes, R: Wait + Drop, B: Backend>(
     alloc: Global,
     rt: R,
@@ -163,6 +164,7 @@ impl<C: Channels + Lanes, D: Board<C>, B: Backend> Parts<C, D, B> {
         } = self;
         // The actors submit at the seats, and the tree takes their inputs out of the drains.
         let SeatEnds { seats, drains } = ends;
+        // The tree sends orders into the lanes, and the backends are asked them at the desks.
         let LaneEnds { lanes, desks } = lanes.fill(rings, backends);
         let mut room = new_room(alloc, beginning, tree, drains, lanes, board, history);
         // For proofs alone: that no input is done yet.

@@ -76,8 +76,10 @@ impl<B: Backend, L: Lanes> Desk<B, L> {
         Desk {
             lane,
             consumer,
+            // The order that was taken from the ring and that the backend has not taken yet: none.
             held: None,
             backend,
+            // It names the run in proofs, and has no bytes.
             lanes: PhantomData,
         }
     }
@@ -102,6 +104,7 @@ impl<B: Backend, L: Lanes> Desk<B, L> {
             return self.held;
         }
         match self.consumer.pop() {
+            // It is held until the backend has taken it.
             Ok(order) => self.held = Some(order),
             Err(_) => return None,
         }
@@ -124,6 +127,7 @@ impl<B: Backend, L: Lanes> Desk<B, L> {
         };
         match self.backend.ask(order) {
             Ok(()) => {
+                // The backend took it: the next call goes on with the ring.
                 self.held = None;
                 Carried::Asked
             }
@@ -153,6 +157,7 @@ impl<B: Backend, L: Lanes> Desk<B, L> {
     {
         // How many orders that were sent are still in the ring.
         let waiting = self.consumer.slots_beside(&mut lane.producer);
+        // An order was taken out of the ring, and the backend handed it back: it is still to be asked.
         if self.held.is_some() {
             return false;
         }

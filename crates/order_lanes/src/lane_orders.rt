@@ -68,6 +68,7 @@ pub fn send_all<L: Lanes>(lanes: &mut Vec<Lane<L>>, orders: &[Order])
         ≡ sent_in k lanes.old.items ++ orders_of_lane (length lanes.old.items) k orders.now }
     ensures len { length lanes.new.items ≡ length lanes.old.items }
 {
+    // For the proof alone: how many lanes there are, which no order changes.
     let count = lanes.len();
     for order in orders {
         send_one(lanes, order);

@@ -53,6 +53,7 @@ impl<R> Probe<R> {
             rt,
             waiting,
             busy,
+            // The orders that it took, and, for contracts alone, the reports that it gave.
             asked: Vec::new(alloc),
             given: Vec::new(alloc),
             log,
@@ -99,6 +100,7 @@ impl<R: Wait + Drop> Backend for Probe<R> {
             self.given.reserve(1).ok()?;
             let report = self.waiting.pop()?;
             if is_of_asked(self.asked.as_slice(), &report) {
+                // For contracts alone: the reports that were given.
                 self.given.push_reserved(Snapshot::of(&report));
                 return Some(report);
             }

@@ -58,6 +58,7 @@ pub fn replay<A: Allocator + Copy, R: Read + Drop, W: Write + Drop>(
     output: W,
 ) -> Result<(), ReplayFault> {
     let (mut reader, mut writer) = buffers(alloc, input, output)?;
+    // How many inputs, events and orders there were is not told.
     let _counts = replay_whole(alloc, patterns, &mut reader, &mut writer)?;
     Ok(())
 }
@@ -93,6 +94,7 @@ pub fn record_replies<A: Allocator + Copy, R: Read + Drop, W: Write + Drop>(
     output: W,
 ) -> Result<(), ReplayFault> {
     let (mut reader, mut writer) = buffers(alloc, input, output)?;
+    // How many inputs, events and orders there were is not told.
     let _counts = migrate_whole(alloc, patterns, &mut reader, &mut writer)?;
     Ok(())
 }

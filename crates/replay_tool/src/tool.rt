@@ -61,6 +61,7 @@ fn day_at(env: &impl Env, place: usize) -> Option<u64> {
     let mut word = [0; LONGEST_DAY];
     let count = env.arg(place, &mut word).ok()?;
     let instant = parse_timestamp(&word[..count]).ok()?;
+    // `MILLISECOND` is a millisecond in nanoseconds.
     u64::try_from(instant.nanosecond / MILLISECOND).ok()
 }
 
@@ -76,7 +77,8 @@ fn asked_of_story(env: &impl Env) -> Asked {
     }
 }
 
-// What the words behind `replay` ask for. The program's name is at place 0, and `replay` at 1, so the first of these words is at 2.
+// What the words behind `replay` ask for. The program's name is at place 0, and `replay` at 1, so the first of these words is at 2. A second one may
+// come behind `--story` alone.
 fn asked_of_replay(env: &impl Env) -> Asked {
     if !has_word(env, 2) {
         Asked::Replay
@@ -107,6 +109,7 @@ fn asked_tool(env: &impl Env) -> Asked {
     if is_word(env, 1, b"replay") {
         return asked_of_replay(env);
     }
+    // Behind `--help` and `--version` no word is taken.
     if has_word(env, 2) {
         Asked::Unknown
     } else if is_word(env, 1, b"--help") {
@@ -176,6 +179,7 @@ pub fn run_tool<A: Allocator + Copy, R: Read + Drop, W: Write + Drop, E: Write>(
         Asked::Version => print(output, errors, VERSION),
         Asked::ReplayHelp => print(output, errors, REPLAY_HELP),
         Asked::Replay => ended(replay(alloc, patterns, input, output), errors),
+        // The script once more, with the replies of a new tree.
         Asked::Migrate => ended(record_replies(alloc, patterns, input, output), errors),
         Asked::Story => ended(story(alloc, patterns, input, output), errors),
         Asked::DatedStory(start) => {

@@ -70,9 +70,13 @@ impl StepLog {
         ensures { IfOk result (λ log. log.steps ≡ []) }
     {
         Ok(StepLog {
+            // The codes of steps, one behind the other.
             codes: Vec::with_capacity(alloc, room.bytes)?,
+            // For each step where its code begins, or its place in `whole`.
             starts: Vec::with_capacity(alloc, room.starts)?,
+            // The steps whose codes are not there: they are kept as they are.
             whole: WholeSteps::new(alloc, room.whole, room.orders)?,
+            // Where the code of a step is made, before it is copied to `codes`.
             scratch: Vec::new(alloc),
         })
     }
@@ -89,6 +93,7 @@ impl StepLog {
         ensures steps { self.new.steps ≡ self.old.steps }
         ensures room { OnOk result (LogHasRoom self.new) }
     {
+        // The place of a step that is kept whole has 32 bits.
         if self.whole.len() > u32::MAX as usize {
             return Err(NoMemory);
         }

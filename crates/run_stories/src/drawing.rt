@@ -104,6 +104,7 @@ fn word_of(shade: Shade) -> &'static str {
 
 // Writes the beginning of the picture: its size, its fonts, its title, and a white ground.
 fn write_head<W: Write>(writer: &mut W, layout: Layout) -> io::Result<()> {
+    // To the right of the lanes some space is left (`RIGHT`), and below the axis there is room for its words (`BOTTOM`).
     let width = layout.left.saturating_add(LANES_WIDTH + RIGHT);
     let height = layout.axis.saturating_add(BOTTOM);
     write!(
@@ -185,6 +186,7 @@ pub fn write_frame<W: Write>(writer: &mut W, layout: Layout, scale: &Scale) -> i
     write_head(writer, layout)?;
     write_legend(writer, layout)?;
     write_marks(writer, layout, scale)?;
+    // The unit stands below the middle of the axis.
     let (x, y) = (
         layout.left.saturating_add(LANES_WIDTH / 2),
         layout.axis.saturating_add(36),

@@ -70,6 +70,7 @@ impl<A: Allocator + Copy> TimelineLanes<A> {
         let place = self.lanes.len();
         self.lanes.push(TimelineLane {
             name,
+            // Its supervisor is there, until a mark says otherwise.
             standing: Standing::Supervised,
             changes: Vec::new(alloc),
         })?;

@@ -113,6 +113,7 @@ fn read_buffered<A: Allocator + Copy, R: BufRead, const LIMIT: usize>(
         return Err(ReadFault::NoMemory);
     }
     if newline.is_none() {
+        // No newline came: all that was looked at is taken from the reader, and the line goes on.
         reader.consume(end);
         return Ok(None);
     }

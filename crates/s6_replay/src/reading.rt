@@ -36,6 +36,7 @@ impl<A: Allocator + Copy> Scratch<A> {
     /// Memory in which no step was read yet. Until one is, its input is a tick.
     pub fn new(alloc: A) -> Scratch<A> {
         Scratch {
+            // The input line and the reply line that were read last, and a text that is compared or written.
             line: Vec::new(alloc),
             reply: Vec::new(alloc),
             text: Vec::new(alloc),
@@ -44,6 +45,7 @@ impl<A: Allocator + Copy> Scratch<A> {
                 at: At::zero(),
                 act: Act::Tick,
             },
+            // What the tree gave for the input that it took last.
             effect: Effect::new(alloc),
         }
     }

@@ -125,6 +125,7 @@ pub fn spell_step<A: Allocator + Copy>(
         // Its line is too long.
         return Err(SpellFault::Unspelt);
     }
+    // The input line ends here, and the line of its reply begins with an equals sign and a space.
     text.extend_from_slice(b"\n= ")?;
     push_reply(text, reply)?;
     text.extend_from_slice(b"\n")?;

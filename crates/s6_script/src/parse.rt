@@ -227,6 +227,7 @@ fn letters_of(word: &[u8]) -> Letters
     for byte in word {
         add_letter(&mut letters, *byte);
     }
+    // The word spells no letter: any one stands for it, since there has to be one.
     if letters.is_empty() {
         letters.push(ControlLetter::Up);
     }

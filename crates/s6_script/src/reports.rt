@@ -52,6 +52,7 @@ fn take_started<A: Allocator>(words: &mut Words<'_>, act: &mut Act<A>) -> Option
         → IsSome result × (words.new ≡ []) }
 {
     let (sid, generation) = take_life(words)?;
+    // The greatest process number is 2147483647.
     let pid = take_number(words, 2_147_483_647)?;
     // Process numbers count from 1.
     if pid == 0 {

@@ -139,7 +139,7 @@ fn match_of(word: &[u8]) -> Answer
     }
 }
 
-// Whether a service fails for good, by the word behind `permafail`.
+// Whether a service fails for good, by the word behind `permafail`: 125 where it does, as the status of `permafailon` says it, else 0.
 fn failure_of(word: &[u8]) -> Answer
     ensures { result ≡ failure_of word.now }
 {
@@ -163,6 +163,7 @@ pub fn read_answer(line: &[u8]) -> Answer
         Kind::Waiter => Answer::Waiter,
         Kind::Subscription => Answer::Subscription,
         Kind::Failure => failure_of(word_or_none(line, 1)),
+        // Behind `r` and `m` stands a serial, and then the verdict or the letter.
         Kind::Release => release_of(word_or_none(line, 2)),
         Kind::Match => match_of(word_or_none(line, 2)),
         Kind::Busy => Answer::Busy,

@@ -86,6 +86,7 @@ impl ToolConnection {
         let stream = UnixStream::connect(rt, path)?;
         Ok(ToolConnection {
             reader: BufReader::new(alloc, stream)?,
+            // The line that was read last: none yet.
             line: Vec::new(alloc),
         })
     }

@@ -118,7 +118,8 @@ fn strange_of(tool: Tool) -> Wrong
     }
 }
 
-// Where to look for another word that the tool doesn't take, if no option is the wrong one: a dash alone, or a word behind those that it takes.
+// Where to look for another word that the tool doesn't take, if no option is the wrong one: a dash alone, or a word behind those that it takes,
+// which are at most three for `svstat` and four for `permafailon`.
 fn spare_of(tool: Tool) -> Clue
     ensures { result ≡ spare_of tool }
 {
@@ -130,7 +131,9 @@ fn spare_of(tool: Tool) -> Clue
     }
 }
 
-// Where to look on the tool's command line for the first word that is one too many, as a second name behind `svc`, and where else.
+// Where to look on the tool's command line for the first word that is one too many, as a second name behind `svc`, and where else. `svwait` and
+// `svlisten` may have many names, but only one condition, as `-u`, and one mode, as `-a`; behind `record` no word is taken, behind `mkfifodir`
+// one, and behind the others two.
 fn excess_of(tool: Tool) -> (Clue, Clue)
     ensures { result ≡ excess_of tool }
 {
@@ -147,7 +150,7 @@ fn excess_of(tool: Tool) -> (Clue, Clue)
 }
 
 // Where to look for the word that should be a number and is none, and where else: for `permafailon` SECS or else COUNT, for the others the
-// value of `-t`, in one word with it or in the next.
+// value of `-t`, in one word with it (`Valued`) or in the next, behind a word that ends with this letter (`Ended`).
 fn number_clues(tool: Tool) -> (Clue, Clue)
     ensures { result ≡ number_clues tool }
 {
@@ -161,7 +164,7 @@ fn number_clues(tool: Tool) -> (Clue, Clue)
 }
 
 // Where to look for the word that should be a list and is none, and where else: for `permafailon` LIST, for `svstat` the value of `-o`, in
-// one word with it or in the next.
+// one word with it (`Valued`) or in the next, behind a word that ends with this letter (`Ended`).
 fn list_clues(tool: Tool) -> (Clue, Clue)
     ensures { result ≡ list_clues tool }
 {

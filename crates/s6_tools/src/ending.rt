@@ -47,7 +47,7 @@ pub fn tell_fault<E: Write>(
 }
 
 // The exit status of a tool that failed by this fault: 100 for wrong words, 1 for a refusal of the server (111 for `svwait` and
-// `svlisten`), else 111.
+// `svlisten`), else 111. `Unread` is a refusal too: the last scan could not read the service's directory.
 fn status_of(tool: Tool, fault: &ToolFault) -> u8
     ensures { result ≡ status_of_fault tool fault.now }
 {
@@ -183,7 +183,8 @@ fn add_misuse(
     add_advice(told, tool, misuse)
 }
 
-// What would be right, and where to read on.
+// What would be right, and where to read on: `; see s6_tree TOOL --help`. `see_words` is what stands before the tool's name there, and `help_words`
+// what stands behind it.
 fn add_advice(told: &mut Told, tool: Tool, misuse: Misuse) -> Result<(), CapacityError>
     ensures { OnOk result (told.new.items ≡ told.old.items ++ advice_text tool misuse) }
 {

@@ -128,6 +128,7 @@ pub fn run_ftrig_wait<R: Net + Clock, W: Write>(
         return Err(ToolFault::Usage(misuse_of(words.len(), 2)));
     };
     let (target, pattern) = (read_target(target)?, read_pattern(pattern)?);
+    // Finds out, before anything is sent, whether it is a pattern that the server takes.
     try_pattern(alloc, pattern)?;
     let request = subscribe_request(alloc, &target, pattern)?;
     // While the server is busy it is asked again, without end.

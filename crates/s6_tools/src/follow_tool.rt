@@ -21,6 +21,7 @@ pub fn run_follow<R: Net + Clock, W: Write>(
     words: &[&str],
     output: &mut W,
 ) -> Result<u8, ToolFault> {
+    // `follow` takes the same words as `list`: names, and `--json`.
     let command = compile_list(alloc, words)?;
     // `start` is the time of day at which the tree's clock was 0.
     let (mut connection, start) = follow(rt, alloc, socket, &command)?;

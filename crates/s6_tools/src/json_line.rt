@@ -150,7 +150,8 @@ fn push_end(text: &mut Vec<u8>, fault: Option<&ToldWord>) -> Result<(), AllocErr
     text.extend_from_slice(b"}\n")
 }
 
-// Adds the line of a service, one object. No fault is in it: its directory could be read.
+// Adds the line of a service, one object: its name, serial and state, what is true or false of it, its run, its times, and at the end null for the
+// fault, since its directory could be read.
 #[tactic(auto, unfolding(crate::specs::JsonLines::service_line))]
 fn push_service_line(text: &mut Vec<u8>, service: &ListedService) -> Result<(), AllocError>
     ensures { OnOk result (text.new.items ≡ text.old.items ++ service_line service.now) }
@@ -211,7 +212,8 @@ fn push_null_times(text: &mut Vec<u8>) -> Result<(), AllocError>
     push_member(text, b"since", None)
 }
 
-// Adds the line of a directory that could not be read.
+// Adds the line of a directory that could not be read. It has the members of a service's line, in their order: the name, no serial, the state
+// `unread`, null for what is true or false of a service, for its run and for its times, and at the end the fault.
 #[tactic(auto, unfolding(crate::specs::JsonLines::unread_line))]
 fn push_unread_line(text: &mut Vec<u8>, name: &Name, fault: &ToldWord) -> Result<(), AllocError>
     ensures { OnOk result (text.new.items ≡ text.old.items ++ unread_line name.now fault.now) }

@@ -88,6 +88,7 @@ fn print_entries<W: Write>(
     output: &mut W,
 ) -> Result<u8, ToolFault> {
     let names = command.names.as_slice();
+    // Entries of other names are dropped; without names all are kept.
     keep_asked(&mut entries, names);
     let text = text_of(alloc, entries.as_slice(), command.is_json)?;
     if output.write_all(text.as_slice()).is_err() || output.flush().is_err() {

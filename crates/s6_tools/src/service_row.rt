@@ -118,7 +118,7 @@ fn sid_in(line: &[u8]) -> Option<Sid>
 }
 
 /// What a `row` line says of a service; None for any other line, and for one with a number over 4294967295. The line is without its
-/// newline.
+/// newline. `truths` are the fields that are true or false, and `numbers` those that are numbers; `seconds_of` widens an age, if there is one.
 pub fn row_of(line: &[u8]) -> Option<Row>
     ensures { result ≡ row_of line.now }
 {

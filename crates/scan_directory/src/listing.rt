@@ -182,7 +182,7 @@ fn tell_bad_name<E: Write>(alloc: Global, name: &[u8], errors: &mut E) -> Result
     Ok(())
 }
 
-// Writes the lines, or as much of them as the writer takes.
+// Writes the lines, or as much of them as the writer takes: that a writer takes no more is no error here.
 fn tell_whole<E: Write>(lines: &[u8], errors: &mut E)
     ensures { IsTold (E.contents errors.old) (E.contents errors.new) lines.now }
 {

@@ -277,6 +277,7 @@ impl Connection {
                 self.finish_left(errand, reply);
                 Todo::Nothing
             }
+            // One thing that the client made, and left behind, has ended: `begin` ends the next one.
             Phase::Cancelling => {
                 self.phase = Phase::Leaving;
                 Todo::Nothing

@@ -63,7 +63,9 @@ impl Carrying {
         ensures busy { result.busy.items ≡ [] }
     {
         Carrying {
+            // Whether a lane may have more to carry.
             has_more: false,
+            // The lanes that take no order now.
             busy: ArrayVec::new(),
         }
     }
@@ -226,6 +228,7 @@ impl Pace {
         } else if is_done {
             After::Wait(round.until_due())
         } else {
+            // A lane takes no order now: it is tried again after a little while.
             After::Wait(Some(round.retry_time()))
         }
     }

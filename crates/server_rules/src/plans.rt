@@ -55,7 +55,8 @@ impl Plans {
         !self.askers.is_empty() && !self.is_scanning
     }
 
-    /// What is wanted at this moment, in milliseconds.
+    /// What actor 0 is to hand in at this moment, in milliseconds: a scan where a client waits for one to begin (`is_called`), else a tick once the
+    /// moment has come to which a timer or a deadline is set (`due`).
     pub fn wanted(&self, now: u64) -> Wanted
         ensures { result ≡ wanted_at self.now now }
     {

@@ -238,7 +238,7 @@ fn tell_releases(released: &[Release], connections: &mut Vec<Connection>, posts:
     }
 }
 
-// The news go to the connection that made the subscription or the waiter.
+// The news go to the connection that made the subscription or the waiter; to nobody where they concern no connection.
 fn tell_one(news: News, connections: &mut Vec<Connection>, posts: &mut Vec<Post>)
     requires { length posts.old.items < vec_capacity posts.old }
     ensures connections { connections.new.items ≡ (tell news connections.old.items).connections }

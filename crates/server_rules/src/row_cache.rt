@@ -28,7 +28,8 @@ struct CachedRows {
 }
 
 impl CachedRows {
-    // Whether a status of these services may be told from them at this moment.
+    // Whether a status of these services may be told from them at the moment `now`: the last step before they were read was at the moment `step`,
+    // which has to be recent, and all that the status tells has to be there (`has`).
     fn is_fresh(&self, now: u64, subject: &Subject) -> bool
         ensures { result ≡ is_fresh self.now.step now && is_had self.now.has_roster subject.now }
     {
@@ -114,6 +115,7 @@ impl RowCache {
         let rows = CachedRows {
             // The rows.
             shot: Box::new(alloc, Shot::empty())?,
+            // The services that scans added.
             roster: Roster::new(alloc),
             // What the last scan could not read.
             unread: Vec::new(alloc),

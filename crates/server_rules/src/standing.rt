@@ -238,7 +238,8 @@ impl Standing {
         self.follows.covers(name)
     }
 
-    /// Takes out the waiter that was released first; None where none was.
+    /// Takes out the waiter that was released first, which is cancelled to make place for a new one; None where none was. `released` lists the
+    /// serials of the waiters whose release was told.
     pub fn take_released(&mut self) -> Option<WaitId>
         ensures first { IfSome result
             (λ id. self.old ≡ record self.new { released = id ∷ self.new.released }) }
@@ -252,8 +253,9 @@ impl Standing {
         }
     }
 
-    /// Takes out what is ended next, and returns the act that ends it: the released waiters first, then the others, then the subscriptions,
-    /// each in the order listed; None where there is none of them.
+    /// Takes out what is ended next for a client that has left, and returns the act that ends it: the released waiters first, whose release was
+    /// told, then the others, then the subscriptions, each in the order listed; None where there is none of them. `released`, `waiters` and
+    /// `subscriptions` are lists of serials.
     pub fn take_next(&mut self) -> Option<Act<Global>>
         ensures act { result ≡ option_map (λ e. e.act) (next_end self.old) }
         ensures made { IfSome result

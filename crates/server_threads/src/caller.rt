@@ -36,12 +36,14 @@ pub struct Caller {
 }
 
 impl Caller {
-    /// The caller of a seat on which no connection is. A caller is what a connection's thread and the driver share of its requests.
+    /// The caller of a seat on which no connection is. A caller is what a connection's thread and the driver share of its requests: a `Turn` says
+    /// where these stand.
     pub fn new(alloc: Global) -> Caller {
         Caller {
             turn: Mutex::new(Turn {
                 // The requests that the driver has not taken yet.
                 asked: Vec::new(alloc),
+                // How many requests are not answered yet.
                 unanswered: 0,
                 // Whether a connection is there.
                 is_here: false,
@@ -52,6 +54,7 @@ impl Caller {
                 // Whether the tree has ended.
                 is_over: false,
             }),
+            // Wakes whoever waits for a change of that.
             changed: Condvar::new(),
         }
     }

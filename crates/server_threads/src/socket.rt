@@ -47,6 +47,7 @@ pub fn listen<R: Net + Files<File = File>>(
     let made = format!(in alloc; "{path}.new/s")?;
     // No other server makes its socket meanwhile.
     let lock = lock_folder(rt, folder.as_str())?;
+    // Makes the socket at `made`, in the folder, and renames it to `path`.
     let placed = place(rt, folder.as_str(), made.as_str(), path);
     // A socket that was made and is not in its place goes with its folder.
     if placed.is_err() {

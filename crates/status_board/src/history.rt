@@ -149,7 +149,8 @@ impl<C: Channels> Published<C> {
             return false;
         }
         let count = self.count;
-        // `log`, `offer` and `pen` are tokens for proofs: what is known, the shot that is added, and that no other word is made.
+        // `log`, `offer` and `pen` are tokens for proofs: what is known, the shot that is added, and that no other word is made. `again` copies the
+        // token: the history keeps its own, unless the shot is added.
         let mut log = self.log.again();
         let mut offer: Offer<Shot, u64, CountedShots, NothingGained> = log.plain::<
             NothingGained,

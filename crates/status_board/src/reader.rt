@@ -70,7 +70,8 @@ impl<C: Channels, A: Allocator> BoardReader<C, A> {
             return false;
         };
         let shown: &Shown<C, A> = &guard;
-        // The shot that was published last, with all that were published up to it.
+        // The shot that was published last, with all that were published up to it. `known` is what the reader knows of the published shots: an
+        // older shot than the last of these is not taken.
         match shown.change() {
             Some(change) => take_shot(&mut self.known, change, shot),
             None => false,

@@ -67,6 +67,7 @@ impl NewBoard {
         ensures ok { IfOk result (λ writer. writer ≡ first ∷ []) }
         ensures err { IfErr result (λ refused. refused.0 ≡ self) }
     {
+        // `log` is a token, for proofs, of what is known of the history.
         let NewBoard { word, log } = self;
         let published: Published<C> = Published::over(log);
         // The two copies of what is shown.
@@ -83,6 +84,7 @@ impl NewBoard {
         // So the board shows rows from the start.
         match writer.publish_rows(first) {
             Ok(()) => Ok(writer),
+            // The writer has published nothing, so it becomes a new board again.
             Err(refused) => Err((writer.into_new(), refused)),
         }
     }

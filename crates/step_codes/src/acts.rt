@@ -46,7 +46,7 @@ fn push_kind<T: Coded>(code: &mut Vec<u8>, kind: u8, next: &T) -> Result<(), All
     Ok(())
 }
 
-// Adds a byte that tells the kind, and the codes of a service and a generation.
+// Adds a byte that tells the kind, and the codes of a service and a generation. The generation is the number of the service's start that is meant.
 fn push_life(code: &mut Vec<u8>, kind: u8, sid: Sid, generation: u64) -> Result<(), AllocError>
     ensures added { OnOk result (Adds code.old.items code.new.items
         (λ rest. kind ∷ number_onto sid (number_onto generation rest))) }
@@ -61,7 +61,8 @@ fn push_life(code: &mut Vec<u8>, kind: u8, sid: Sid, generation: u64) -> Result<
     Ok(())
 }
 
-/// Adds the code of a tick or a report. An error where memory is refused.
+/// Adds the code of a tick or a report. An error where memory is refused. A byte tells the kind of the act, by which it is read again; its fields
+/// stand behind it. The generation says which start of the service is meant.
 #[inline(always)]
 pub fn push_told(code: &mut Vec<u8>, act: ToldAct) -> Result<(), AllocError>
     ensures added { OnOk result
@@ -87,7 +88,8 @@ pub fn push_told(code: &mut Vec<u8>, act: ToldAct) -> Result<(), AllocError>
     Ok(())
 }
 
-/// Adds the code of an act, if it has one. An error where memory is refused.
+/// Adds the code of an act, if it has one. An error where memory is refused. A byte tells the kind of the act, by which `take_act` reads it again;
+/// its fields stand behind it.
 pub fn push_act(code: &mut Vec<u8>, act: &PlainAct<Global>) -> Result<(), AllocError>
     ensures added { OnOk result (Adds code.old.items code.new.items (act_onto (act_of act.now))) }
     ensures fits { OnOk result
@@ -137,7 +139,7 @@ pub fn push_act(code: &mut Vec<u8>, act: &PlainAct<Global>) -> Result<(), AllocE
     Ok(())
 }
 
-// Takes a service and its generation.
+// Takes a service and its generation. The generation is the number of the service's start that is meant.
 fn take_life(code: &mut Code<'_>) -> (Sid, u64)
     ensures { (sid generation : ℕ) → (rest : List ℕ) → sid < 2 ^ 64 → generation < 2 ^ 64
         → code.old ≡ number_onto sid (number_onto generation rest)

@@ -1,4 +1,5 @@
-//! The codes of marks, and of how programs ended.
+//! The codes of marks, and of how programs ended. A mark is one byte. An exit is two: 0 and the exit code, or 1 and the number of the signal that
+//! killed the program. Other bytes, which no record has, give any value.
 use crate::coded::{Code, Coded};
 use s6_events::{Exit, Mark};
 use std::alloc::AllocError;
@@ -11,6 +12,7 @@ impl Coded for Mark {
 
     ghost fits = { λ mark. ⊤ };
 
+    // Adds its code: a byte that tells which mark it is.
     fn push(&self, code: &mut Vec<u8>) -> Result<(), AllocError> {
         code.push(match self {
             Mark::SupervisorStarted => 0,
@@ -24,6 +26,7 @@ impl Coded for Mark {
         Ok(())
     }
 
+    // Reads the mark that the next byte stands for.
     fn take(code: &mut Code<'_>) -> Mark {
         match code.take_byte() {
             0 => Mark::SupervisorStarted,
@@ -44,6 +47,7 @@ impl Coded for Exit {
 
     ghost fits = { FitsExit };
 
+    // Adds its code: 0 and the exit code, or 1 and the number of the signal that killed the program.
     fn push(&self, code: &mut Vec<u8>) -> Result<(), AllocError> {
         match self {
             Exit::Code(number) => {
@@ -58,6 +62,7 @@ impl Coded for Exit {
         Ok(())
     }
 
+    // Reads an exit: 0 stands before an exit code, 1 before the number of a signal.
     fn take(code: &mut Code<'_>) -> Exit {
         if code.take_byte() == 0 {
             Exit::Code(code.take_byte())

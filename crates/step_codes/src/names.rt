@@ -12,6 +12,7 @@ impl Coded for Name {
 
     ghost fits = { λ name. IsTrue (is_name name) };
 
+    // Adds its code: a byte that tells how many bytes it has, at most 64, and these bytes.
     fn push(&self, code: &mut Vec<u8>) -> Result<(), AllocError> {
         let bytes = self.as_bytes();
         code.push(bytes.len() as u8)?;
@@ -19,8 +20,10 @@ impl Coded for Name {
         Ok(())
     }
 
+    // Reads a name: how many bytes it has, and these bytes.
     fn take(code: &mut Code<'_>) -> Name {
         let count = usize::from(code.take_byte());
+        // Bytes that are no name, which no record has, give any name.
         Name::new(code.take_bytes(count)).unwrap_or_default()
     }
 }

@@ -1,4 +1,5 @@
-//! The codes of numbers, truth values and options. Numbers of more than 8 bits: one byte below 251, else 251 or 252 and then 4 or 8 bytes.
+//! The codes of numbers, truth values and options. Numbers of more than 8 bits: one byte below 251, else 251 or 252 and then 4 or 8 bytes. A truth
+//! value is the byte 0 or 1; an option is 0, or 1 and its value. Bytes that are no such code give any value.
 ghost use Rattle.std.specs.Prelude.{◌≡◌, ◌+◌, ◌<◌, ◌≤◌, ◌^◌, ◌++◌, ◌∷◌, List, ℕ, OnOk, length, vec_len, vec_capacity};
 ghost use Rattle.step_codes.specs.Adding.{Adds};
 ghost use Rattle.step_codes.specs.NumberCodes.{number_onto};
@@ -63,6 +64,7 @@ fn push_wide(code: &mut Vec<u8>, number: u64) -> Result<(), AllocError>
     requires { 251 ≤ number }
     ensures { OnOk result (Adds code.old.items code.new.items (number_onto number)) }
 {
+    // A byte that tells the size, and at most eight of the number.
     code.reserve(9)?;
     put_wide(code, number);
     Ok(())
@@ -86,10 +88,13 @@ impl Coded for u64 {
         }
     }
 
+    // Reads a number: one byte, or a byte that tells the size and the bytes of the number.
     fn take(code: &mut Code<'_>) -> u64 {
         let first = code.take_byte();
+        // 251 says that 4 bytes of the number follow, 252 that 8 do; a lower byte is the number.
         if first == 251 {
             let bytes = code.take_bytes(4);
+            // The bytes end too soon, and are no code: 0 is given.
             if bytes.len() < 4 {
                 return 0;
             }
@@ -114,11 +119,14 @@ impl Coded for u32 {
 
     ghost fits = { λ n. n < 2 ^ 32 };
 
+    // Adds its code, which is that of the same number with 64 bits.
     fn push(&self, code: &mut Vec<u8>) -> Result<(), AllocError> {
         u64::from(*self).push(code)
     }
 
+    // Reads a number as one with 64 bits.
     fn take(code: &mut Code<'_>) -> u32 {
+        // A number of more than 32 bits is no code of such a number: any value will do.
         u64::take(code).min(u64::from(u32::MAX)) as u32
     }
 }
@@ -131,11 +139,14 @@ impl Coded for u16 {
 
     ghost fits = { λ n. n < 2 ^ 16 };
 
+    // Adds its code, which is that of the same number with 64 bits.
     fn push(&self, code: &mut Vec<u8>) -> Result<(), AllocError> {
         u64::from(*self).push(code)
     }
 
+    // Reads a number as one with 64 bits.
     fn take(code: &mut Code<'_>) -> u16 {
+        // A number of more than 16 bits is no code of such a number: any value will do.
         u64::take(code).min(u64::from(u16::MAX)) as u16
     }
 }
@@ -147,11 +158,13 @@ impl Coded for u8 {
 
     ghost fits = { λ n. n < 2 ^ 8 };
 
+    // Adds its code, which is the byte itself.
     fn push(&self, code: &mut Vec<u8>) -> Result<(), AllocError> {
         code.push(*self)?;
         Ok(())
     }
 
+    // Reads the next byte.
     fn take(code: &mut Code<'_>) -> u8 {
         code.take_byte()
     }
@@ -165,11 +178,13 @@ impl Coded for bool {
 
     ghost fits = { λ yes. ⊤ };
 
+    // Adds its code: the byte 1 for true, 0 for false.
     fn push(&self, code: &mut Vec<u8>) -> Result<(), AllocError> {
         code.push(u8::from(*self))?;
         Ok(())
     }
 
+    // Reads a truth value: the byte 1 is true, any other one false.
     fn take(code: &mut Code<'_>) -> bool {
         code.take_byte() == 1
     }
@@ -182,6 +197,7 @@ impl<T: Coded> Coded for Option<T> {
 
     ghost fits = { FitsOption T.fits };
 
+    // Adds its code: 1 and the code of the value, or 0 where there is none.
     fn push(&self, code: &mut Vec<u8>) -> Result<(), AllocError> {
         match self {
             Some(one) => {
@@ -193,6 +209,7 @@ impl<T: Coded> Coded for Option<T> {
         Ok(())
     }
 
+    // Reads an option: a value follows behind the byte 1, and none behind any other.
     fn take(code: &mut Code<'_>) -> Option<T> {
         if code.take_byte() == 1 {
             Some(T::take(code))

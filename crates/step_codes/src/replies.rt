@@ -19,6 +19,10 @@ impl Coded for Refusal {
 
     ghost fits = { λ refusal. ⊤ };
 
+    // One byte tells the reason. NoService: no such service. Stale: a report of another run than the present one, or one that is not awaited.
+    // Reserved: a message to the event directory of a service. TooMany: a limit is reached. NoSuch: no such free directory, subscription or waiter.
+    // Closing: a terminate was done. Repeated, Empty: a name twice, no name. Exists: the free directory is there already. Ended: the supervisor has
+    // ended. Spent: the tree has taken its last step.
     fn push(&self, code: &mut Vec<u8>) -> Result<(), AllocError> {
         code.push(match self {
             Refusal::NoService => 1,
@@ -36,6 +40,10 @@ impl Coded for Refusal {
         Ok(())
     }
 
+    // The reason that the byte tells. NoService: no such service. Stale: a report of another run than the present one, or one that is not awaited.
+    // Reserved: a message to the event directory of a service. TooMany: a limit is reached. NoSuch: no such free directory, subscription or waiter.
+    // Closing: a terminate was done. Repeated, Empty: a name twice, no name. Exists: the free directory is there already. Ended: the supervisor has
+    // ended. Spent: the tree has taken its last step.
     fn take(code: &mut Code<'_>) -> Refusal {
         match code.take_byte() {
             1 => Refusal::NoService,
@@ -60,6 +68,7 @@ impl Coded for Row {
 
     ghost fits = { FitsRow };
 
+    // Adds its code: those of its fields, one behind the other.
     fn push(&self, code: &mut Vec<u8>) -> Result<(), AllocError> {
         self.sid.0.push(code)?;
         self.name.push(code)?;
@@ -74,6 +83,7 @@ impl Coded for Row {
         self.ready_for.push(code)
     }
 
+    // Reads the fields in the order in which `push` adds them.
     fn take(code: &mut Code<'_>) -> Row {
         Row {
             sid: Sid(u64::take(code)),

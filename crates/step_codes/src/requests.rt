@@ -13,6 +13,7 @@ impl Coded for ControlLetter {
 
     ghost fits = { λ letter. ⊤ };
 
+    // Adds its code, which is the byte of the letter.
     fn push(&self, code: &mut Vec<u8>) -> Result<(), AllocError> {
         code.push(self.byte())?;
         Ok(())
@@ -20,6 +21,7 @@ impl Coded for ControlLetter {
 
     #[tactic(auto, using(crate::proofs::LetterBack::letter_back))]
     fn take(code: &mut Code<'_>) -> ControlLetter {
+        // A byte that is no letter, which no record has, gives any letter.
         ControlLetter::of_byte(code.take_byte()).unwrap_or_default()
     }
 }
@@ -32,6 +34,7 @@ impl Coded for ScanOrder {
 
     ghost fits = { λ order. ⊤ };
 
+    // Adds its code: 0 for nuke, 1 for terminate (the options -n and -t of `s6-svscanctl`).
     fn push(&self, code: &mut Vec<u8>) -> Result<(), AllocError> {
         code.push(match self {
             ScanOrder::Nuke => 0,
@@ -40,6 +43,7 @@ impl Coded for ScanOrder {
         Ok(())
     }
 
+    // Reads a command to all services: 0 is nuke, 1 terminate.
     fn take(code: &mut Code<'_>) -> ScanOrder {
         if code.take_byte() == 0 {
             ScanOrder::Nuke
@@ -57,6 +61,7 @@ impl Coded for Condition {
 
     ghost fits = { λ condition. ⊤ };
 
+    // Adds its code: a byte that tells for what a waiter waits.
     fn push(&self, code: &mut Vec<u8>) -> Result<(), AllocError> {
         code.push(match self {
             Condition::Up => 0,
@@ -69,6 +74,7 @@ impl Coded for Condition {
         Ok(())
     }
 
+    // Reads the condition that the next byte stands for.
     fn take(code: &mut Code<'_>) -> Condition {
         match code.take_byte() {
             0 => Condition::Up,
@@ -89,6 +95,7 @@ impl Coded for Mode {
 
     ghost fits = { λ mode. ⊤ };
 
+    // Adds its code: 0 where the condition has to hold of all of a waiter's services, 1 where of one.
     fn push(&self, code: &mut Vec<u8>) -> Result<(), AllocError> {
         code.push(match self {
             Mode::All => 0,
@@ -97,6 +104,7 @@ impl Coded for Mode {
         Ok(())
     }
 
+    // Reads a mode: 0 is all of a waiter's services, 1 one of them.
     fn take(code: &mut Code<'_>) -> Mode {
         if code.take_byte() == 0 {
             Mode::All
@@ -113,6 +121,7 @@ impl Coded for Target {
 
     ghost fits = { FitsTarget };
 
+    // Adds its code: 0 for the event directory of a service, 1 for a free one, and the name.
     fn push(&self, code: &mut Vec<u8>) -> Result<(), AllocError> {
         match self {
             Target::Service(name) => {
@@ -126,6 +135,7 @@ impl Coded for Target {
         }
     }
 
+    // Reads which event directory is meant: 0 stands before the name of a service, 1 before that of a free directory.
     fn take(code: &mut Code<'_>) -> Target {
         if code.take_byte() == 0 {
             Target::Service(Name::take(code))

@@ -35,6 +35,7 @@ fn push_outcome(code: &mut Vec<u8>, effect: &Effect<Global>) -> Result<(), Alloc
     push_reply(code, &effect.reply)?;
     push_list(code, effect.events.as_slice())?;
     push_list(code, effect.orders.as_slice())?;
+    // The waiters that the step released, each with what became of its condition.
     push_list(code, effect.released.as_slice())
 }
 
@@ -134,6 +135,7 @@ pub fn take_outcome(code: &mut Code<'_>, effect: &mut Effect<Global>) -> Result<
     // A step with a match has no code.
     effect.matched.clear();
     effect.released.clear();
+    // The waiters that the step released.
     take_list(code, &mut effect.released)?;
     Ok(())
 }

@@ -13,12 +13,14 @@ impl Coded for Event {
 
     ghost fits = { FitsEvent };
 
+    // Adds its code: the serial of the service, and the mark.
     fn push(&self, code: &mut Vec<u8>) -> Result<(), AllocError> {
         self.sid.0.push(code)?;
         self.mark.push(code)?;
         Ok(())
     }
 
+    // Reads the serial of the service, and the mark.
     fn take(code: &mut Code<'_>) -> Event {
         let sid = Sid(u64::take(code));
         let mark = Mark::take(code);
@@ -33,6 +35,8 @@ impl Coded for Release {
 
     ghost fits = { FitsRelease };
 
+    // The waiter, and a byte for its verdict: its condition held; it was given up, since a service failed for good or since supervisors ended; or
+    // its deadline came.
     fn push(&self, code: &mut Vec<u8>) -> Result<(), AllocError> {
         self.waiter.0.push(code)?;
         code.push(match self.verdict {
@@ -44,6 +48,7 @@ impl Coded for Release {
         Ok(())
     }
 
+    // Reads the waiter, and the byte of its verdict: its condition held; a service failed for good; supervisors have ended; or its deadline came.
     fn take(code: &mut Code<'_>) -> Release {
         let waiter = WaitId(u64::take(code));
         let verdict = match code.take_byte() {

@@ -78,6 +78,7 @@ impl ChartState {
             ControlLetter::Up => self.be_told_up(out),
             ControlLetter::Down => self.be_told_down(now, out),
             ControlLetter::Once => {
+                // It is not started again when it dies.
                 self.wanted_up = false;
                 // A start that the timer would bring is given up.
                 if self.phase == Phase::Down {
@@ -91,6 +92,7 @@ impl ChartState {
                 }
             }
             ControlLetter::Exit => {
+                // Its supervisor ends as soon as the service is down: at once, where it is down already.
                 self.exit_requested = true;
                 if self.phase == Phase::Down {
                     self.end_supervisor(now, out);

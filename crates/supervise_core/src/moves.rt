@@ -86,6 +86,7 @@ impl ChartState {
         requires { length out.old.orders.items < 126 }
         ensures { AppendsMove (finish_move exit now self.old) self.new out.old out.new }
     {
+        // The first two arguments of `finish`, which tell it how the run ended.
         let (code, signal) = finish_args(exit);
         self.phase = Phase::Finish;
         self.timer = if self.config.timeout_finish == 0 {

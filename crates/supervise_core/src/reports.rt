@@ -73,6 +73,7 @@ impl ChartState {
         }
         self.phase = Phase::Up;
         self.pid = pid;
+        // Nothing stays of the run before: this one is neither stopped nor ready.
         self.paused = false;
         self.ready_since = None;
         out.events.push(Mark::Spawned);
@@ -126,6 +127,7 @@ impl ChartState {
         ensures quiet { out.new.orders.items ≡ out.old.orders.items }
     {
         self.phase = Phase::Down;
+        // The down signal that was to follow the spawn is not needed.
         self.down_pending = false;
         if self.exit_requested {
             self.end_supervisor(now, out);
@@ -197,9 +199,11 @@ impl ChartState {
             return;
         }
         out.events.push(Mark::Died);
+        // When it died and how: for the moment of the next start, and for the status row.
         self.died_at = now;
         self.last_exit = Some(exit);
         self.paused = false;
+        // The SIGKILL after `timeout-kill`, for which the timer may be set, is not needed any more.
         self.timer = None;
         if self.config.finish {
             self.start_finish(exit, now, out);

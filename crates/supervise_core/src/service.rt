@@ -86,6 +86,7 @@ impl<A: Allocator + Copy> Service<A> {
     {
         let tally = Tally::new(alloc, config.max_death_tally)?;
         let chart = ChartState::begin_into(sid, name, config, out);
+        // What is stored of its marks for the status row: as before any mark.
         let status = Status::new();
         let standing = ServiceState { chart, status };
         Ok(Service { standing, tally })

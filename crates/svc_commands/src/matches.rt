@@ -57,7 +57,7 @@ pub fn with_names<'a>(alloc: Global, command: Command<'a>) -> Result<Command<'a>
     command.arg(names)
 }
 
-// The command with one more positional argument.
+// The command with one more positional argument: a word, which is looked up later by `id`.
 pub fn with_word<'a>(
     alloc: Global,
     command: Command<'a>,
@@ -70,7 +70,8 @@ pub fn with_word<'a>(
     command.arg(word)
 }
 
-// The command with the options that svwait and svlisten have in common.
+// The command with the options that svwait and svlisten have in common: what is waited for (`u` up, `U` up and ready, `d` down, `D` down with
+// `finish` ended), of how many services (`a` all, `o` one), and the timeout (`t`).
 pub fn with_wait_options<'a>(alloc: Global, command: Command<'a>) -> Result<Command<'a>, AllocError>
     ensures { IfOk result (λ r. app_of r ≡ with_wait_rules (app_of command.entry)) }
 {

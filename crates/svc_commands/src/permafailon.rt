@@ -48,7 +48,8 @@ pub fn compile_permafailon<'a>(
     permafail_command(alloc, &matches)
 }
 
-// The command line, as `clap` sees it: four words, each with the id by which it is looked up later.
+// The command line, as `clap` sees it: four words, each with the id by which it is looked up later. They ask whether the service `name` died at
+// least `count` times in the last `secs` seconds by one of the exits of `list`.
 #[tactic(auto, unfolding(crate::specs::Matches::permafail_app))]
 fn permafailon_command<'a>(alloc: Global) -> Result<Command<'a>, AllocError>
     ensures { IfOk result (λ r. app_of r ≡ permafail_app) }
@@ -70,7 +71,7 @@ fn permafail_command(
         (λ command. (permafail_fault rows ≡ None) × IsPermafailCommand rows command)
         (λ fault. (fault ≡ UsageFault.NoMemory) ⊎ (permafail_fault rows ≡ Some fault)) }
 {
-    // These lines are in the order of the faults.
+    // These lines are in the order of the faults: what is no number or no list, then what is missing, then a name that is none.
     let secs = number_in(matches, "secs")?;
     let count = number_in(matches, "count")?;
     let list = exits_in(alloc, matches)?;

@@ -85,7 +85,7 @@ fn after_dashes<'a>(words: &'a [&'a str]) -> &'a [&'a str]
     }
 }
 
-// The place of the first `--`, or the end.
+// The place of the first `--`, or the end. The words before it are options and names; those behind it are the program that is run.
 fn cut_at(words: &[&str]) -> usize
     ensures place { result ≡ unwrap_or (position (λ w. bytes_eq w.now (codes "--")) words.now)
         (length words.now) }

@@ -87,7 +87,7 @@ pub(crate) fn wait_command(
 }
 
 // How often the options are given in all that say what is waited for: `-u`, `-U`, `-d`, `-D`, and for svlisten `-r` and `-R`, of which
-// svwait counts none.
+// svwait counts none. More than one is refused.
 fn conditions(matches: &ArgMatches<'_>) -> u32
     ensures { result ≡ condition_count (rows_of (found_of matches.now)) }
 {
@@ -99,7 +99,7 @@ fn conditions(matches: &ArgMatches<'_>) -> u32
         + matches.get_count("R") as u32
 }
 
-// How often the options are given in all that say of how many services the condition has to hold: `-a` and `-o`.
+// How often the options are given in all that say of how many services the condition has to hold: `-a` and `-o`. More than one is refused.
 fn modes(matches: &ArgMatches<'_>) -> u32
     ensures { result ≡ mode_count (rows_of (found_of matches.now)) }
 {

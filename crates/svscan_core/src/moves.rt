@@ -191,8 +191,10 @@ impl<A: Allocator + Copy> Moves<A> {
         let mut changed = ChangedService {
             place,
             standing: *standing,
+            // A visit reports no death.
             death: None,
         };
+        // The visit is made to a copy of the service's state and status; `out` gets the marks and orders.
         visit.make(&mut changed.standing, now, out);
         self.touch(&changed, out)?;
         Ok(())
@@ -260,6 +262,7 @@ impl<A: Allocator + Copy> Moves<A> {
         let Some(standing) = standing_at(slots, self.touched.as_slice(), place) else {
             return Ok(false);
         };
+        // The change is made to a copy of the service's state and status; the death that it reports is set below.
         let mut changed = ChangedService {
             place,
             standing: *standing,

@@ -204,6 +204,7 @@ impl<A: Allocator + Copy> Registry<A> {
             → OnOk result (registry_prepared self.new.shown.services self.new.planned
             ≡ idle_of self.new.shown) }
     {
+        // Where the marks and orders of one service's change lie while the step is worked out.
         let out = &mut self.out;
         self.pending
             .work_out(&self.slots, self.next_sid, due, work, now, out)?;
@@ -299,6 +300,7 @@ impl<A: Allocator + Copy> Registry<A> {
         ensures prepared { OnOk result (IsWorkOf (work_asked work.now) now self.old.shown
             (registry_prepared self.new.shown.services self.new.planned)) }
     {
+        // Where the marks and orders of one service's change lie while the step is worked out.
         let out = &mut self.out;
         self.pending
             .work_alone(&self.slots, self.next_sid, work, now, out)?;

@@ -101,6 +101,7 @@ impl TextMatcher {
     {
         let nfa = automaton_of(alloc, text, limits.bytes)?;
         let has_assertions = has_assertion(&nfa);
+        // What one letter costs grows with the states in which a search may stand.
         if letter_cost(&nfa, has_assertions) > limits.letter_cost {
             return Err(BuildFault::Refused);
         }
@@ -109,6 +110,7 @@ impl TextMatcher {
         let mut behind = StateList::new(alloc, states)?;
         // Where a search begins that may skip letters before a match.
         behind.add(nfa.unanchored);
+        // A second list, whose states are of use within one call only.
         let spare = StateList::new(alloc, states)?;
         let heard = Vec::with_capacity(alloc, letters)?;
         let source = String::from_str(alloc, text)?;
@@ -117,6 +119,7 @@ impl TextMatcher {
             nfa,
             heard,
             behind,
+            // So far `behind` has only the state where a search begins: those beside it are added before the first letter, or by `has_match`.
             is_standing: false,
             has_matched: false,
             spare,
@@ -146,6 +149,7 @@ impl TextMatcher {
         self.behind.clear();
         // A search of the empty text is in the state in which each search begins.
         self.behind.add(self.nfa.unanchored);
+        // The states beside that one are not added yet, and no match is found yet.
         self.is_standing = false;
         self.has_matched = false;
     }
@@ -202,6 +206,7 @@ impl TextMatcher {
             self.is_standing,
             self.has_matched,
         );
+        // `stand_once` added to `behind` all other states in which the search stands here: the next call needn't.
         self.is_standing = true;
         self.has_matched
     }
@@ -223,6 +228,7 @@ fn letter_cost(nfa: &Nfa, has_assertions: bool) -> usize {
 // How much a state costs where a search of letters below 128 stands in it.
 fn state_cost(nfa: &Nfa, state: State) -> usize {
     match state {
+        // It reads one range of bytes: none that counts where that begins at 128 or above.
         State::ByteRange(transition) => reading_cost(usize::from(transition.start < 128)),
         State::Sparse { from, to } => reading_cost(letter_ranges(nfa, from, to)),
         State::Split { .. } => CHOICE_COST,
@@ -260,6 +266,7 @@ fn automaton_of(alloc: Global, text: &str, size_limit: usize) -> Result<Nfa, Bui
         Ok(parsed) => parsed,
         Err(error) => return Err(BuildFault::of_parser(error.kind)),
     };
+    // The parser gives a name, perhaps none, for each group; the compiler takes their number in 32 bits.
     let Ok(groups) = u32::try_from(names.len()) else {
         return Err(BuildFault::Refused);
     };

@@ -114,6 +114,7 @@ impl<A: Allocator + Copy> Act<A> {
                 PlainAct::Wait(*condition, *mode, *timeout, copy_of(alloc, names.names())?)
             }
             Act::Cancel(id) => PlainAct::Cancel(*id),
+            // `repeats`: the pattern is looked for again after each match.
             Act::Subscribe(target, pattern, repeats) => {
                 PlainAct::Subscribe(*target, String::from_str(alloc, pattern.text())?, *repeats)
             }

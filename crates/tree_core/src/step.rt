@@ -100,6 +100,7 @@ fn reply_to<A: Allocator + Copy>(
     Ok(match choice {
         Choice::Refuse(why) => Reply::Refused(*why),
         Choice::Report(_, _) if registry.is_stale() => Reply::Refused(Refusal::Stale),
+        // Which services the scan drops, and what becomes of each listed name for which there was no service.
         Choice::Listing(_) => Reply::Scanned(ScanReport::new(
             registry.dropped().to_vec(alloc)?,
             registry.listed().to_vec(alloc)?,

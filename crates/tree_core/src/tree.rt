@@ -69,11 +69,14 @@ impl<A: Allocator + Copy> Tree<A> {
         ensures { StandsFor result new_machine }
     {
         Tree {
+            // The clock, how many inputs the tree has taken, and whether a terminate was done.
             clock: At::zero(),
             steps: 0,
             closing: false,
+            // The services, and their timers.
             registry: Registry::new(alloc),
             deadlines: Deadlines::new(alloc),
+            // The clock readings and marks that waiters still need, the waiters, and the event directories.
             history: History::new(alloc),
             waits: Waits::new(alloc),
             directories: Directories::new(alloc),

@@ -157,6 +157,7 @@ impl<'a, C: Channels + Lanes> DriverState<'a, C> {
 
     /// Hands in a scan of what was found, at the moment `now`, in milliseconds. Returns whether the scanner's ring took it.
     pub fn submit_scan(&mut self, now: u64, found: Found) -> bool {
+        // The input end of the scanner's ring.
         let Some(seat) = self.seats.get(SCANNER) else {
             return false;
         };

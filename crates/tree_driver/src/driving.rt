@@ -174,7 +174,7 @@ pub fn drive_some<C: Channels + Lanes, D: Board<C>, B: Backend, R: Wait>(
         }
         note_steps(context, state, driven);
         if driven.stop == DriveStop::Idle {
-            // Every input is done, so the tree's clock is at the last moment that was handed in.
+            // Every input is done, so the tree's clock, which statuses and `clock` tell, is at the greatest moment that was handed in.
             state.lasting.clients.now = state.lasting.handed_in;
         }
         if !deliver_all(context, office, state) {

@@ -116,7 +116,8 @@ fn run_once<B: Backend, R: Wait + Clock + Copy + Drop, W: Write + Drop, E: Write
     before: Between<B>,
     lasting: &mut Lasting,
 ) -> AfterRun<B> {
-    // `Brand` names the run's rings and its board, for the proof alone. An office that can't be made gives the tree and the backends back.
+    // `Brand` names the run's rings and its board, for the proof alone. An office that can't be made gives the tree and the backends back, and
+    // `wait_or_end` says what comes then: the end of the tree, or another try.
     match NewOffice::new(context.alloc(), before.tree, ACTOR_COUNT, before.backends) {
         Ok(office) => run_named::<B, Brand, R, W, E>(context, settings, errors, office, lasting),
         Err((fault, tree, backends)) => {
@@ -213,6 +214,7 @@ fn run_opened<
     lasting.clients.notes.begin_run();
     // An empty list with room for what each seat gives at the end of the run.
     let finish_room = take_memory(context, lasting, &mut settings.recorder);
+    // The pace says when the run takes inputs, and when it ends, by how many steps a run is to have (`handover`).
     let pace = Pace::new(settings.handover);
     let mut state = DriverState::new(context.alloc(), seats, reader, known, lasting, pace);
     match drive_to_end(context, settings, errors, &office, &mut state) {

@@ -77,6 +77,7 @@ fn is_submitted<C: Channels + Lanes>(
     now: u64,
     act: Act<Global>,
 ) -> bool {
+    // The connection on seat 0 is the actor `FIRST_CLIENT`, and the others follow.
     match state.hand_in(FIRST_CLIENT.saturating_add(seat), now, act) {
         Ok(()) => true,
         Err(act) => {

@@ -64,6 +64,7 @@ pub fn run_words<R: Env + Net + Files + Processes + Clock + Copy + Drop, W: Writ
     match program_of(words.as_slice()) {
         Program::Svscan => read_place(words, output, errors),
         Program::Connect => read_socket(words, output, errors),
+        // The tool of `replay` also tells the version.
         Program::Replay | Program::Version => Asked::Replay,
         Program::Strange => {
             let word = words.get(1).map(|word| word.as_str());
@@ -237,7 +238,7 @@ fn read_socket<W: Write, E: Write>(words: Vec<String>, output: &mut W, errors: &
 }
 
 // The scan directory, the socket and the record; None where the words are too few or too many. The first two of `words` are the program's name
-// and `svscan`.
+// and `svscan`. The directory and the socket follow, and then the path of the record, if there is to be one.
 fn place_of(words: Vec<String>) -> Option<TreePlace> {
     let mut words = words;
     if words.len() < 4 || words.len() > 5 {

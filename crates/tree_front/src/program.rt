@@ -81,7 +81,8 @@ pub enum Begun<R: Drop> {
 }
 
 /// Does what the words of the command line ask for; a tree is only begun. `run_words` does all but a replay, a connection and a tree, and says
-/// which of these is left to do. Before anything else is opened, each of the descriptors 0, 1 and 2 that is closed is opened as `/dev/null`.
+/// which of these is left to do: `run_tool` does a replay, and tells the version. Before anything else is opened, each of the descriptors 0, 1 and
+/// 2 that is closed is opened as `/dev/null`.
 pub fn begin_program<
     R: Env
         + Net

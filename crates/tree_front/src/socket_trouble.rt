@@ -58,8 +58,11 @@ fn trouble_at<R: Files>(rt: &R, path: &str) -> Trouble {
     }
     match fs::symlink_metadata(rt, path) {
         Ok(found) if !found.file_type().is_socket() => Trouble::File,
+        // A file stands where the folder would be in which the socket is made.
         _ if is_taken(rt, path) => Trouble::Beside,
+        // A socket is there: its server answers, or starts just now.
         Ok(_) => Trouble::Server,
+        // Nothing is seen at the path: no socket can be made in its folder.
         Err(_) => Trouble::Folder,
     }
 }
@@ -119,6 +122,7 @@ fn add_second_line(
 {
     told.try_extend_from_slice(b"svscan: ")?;
     told.try_extend_from_slice(before_of(fault, trouble).as_bytes())?;
+    // The first `PATH_BYTES` bytes of the path; those that can't be printed are escaped.
     add_escaped(told, PATH_BYTES, path.as_bytes())?;
     told.try_extend_from_slice(b"\n")
 }

@@ -69,7 +69,8 @@ pub fn run_tree<
 // Makes all that is needed before a service is started: the listing for the first scan, the recorder, which writes the runs into the file of the
 // record, if there is one, and what the threads share. Of that, `callers` have what connections ask of the driver, `scans` is where the driver
 // asks for a reading of the scan directory, `rows` is what was last read for statuses, and `driver` is the bell that wakes the driver. `seats` say
-// who is connected. What is written to `errors` becomes notes. The error says what could not be made or read: `NoMemory` where memory was refused.
+// who is connected. What is written to `errors` becomes notes. The error says what could not be made or read: `NoMemory` where memory was refused
+// (`fault_of` looks whether that was why).
 fn prepare<R: Files<File = File> + Wait + Clock + Copy + Drop>(
     rt: &R,
     alloc: Global,
@@ -217,6 +218,7 @@ where
 {
     for (link, worker) in links.iter().zip(workers) {
         if !start_lane(scope, rt, server.answers(), link, worker) {
+            // The system refused the lane's thread.
             return false;
         }
     }

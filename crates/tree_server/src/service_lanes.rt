@@ -18,8 +18,9 @@ pub struct TreeLanes<B, K> {
 /// The lanes of services that are processes.
 pub type ServiceLanes<R> = TreeLanes<LinkedBackend<R>, ProcessBackend<R>>;
 
-/// Makes the lanes of services that lie under `root`. A lane is a queue of orders to a thread that starts and signals processes. The keeper starts
-/// the threads that watch the processes. What can't be started or signalled is noted. `NoMemory` where memory is refused.
+/// Makes the lanes of services that lie under `root`. A lane is a queue of orders to a thread. It has a worker (`ProcessBackend`), which starts and
+/// signals processes in that thread; a backend, which the runs of the tree ask; and a link, by which orders go from the backend to the thread. The
+/// keeper starts the threads that watch the processes. What can't be started or signalled is noted. `NoMemory` where memory is refused.
 pub fn open_service_lanes<R: Wait + Copy + Drop>(
     rt: R,
     alloc: Global,
@@ -33,7 +34,7 @@ pub fn open_service_lanes<R: Wait + Copy + Drop>(
         workers: Vec::new(alloc),
     };
     for _ in 0..LANE_COUNT {
-        // It starts and signals the processes.
+        // It goes into `workers`; `add_lane` makes its link and its backend.
         let worker = ProcessBackend::new(rt, alloc, keeper, root, notes)?;
         add_lane(rt, alloc, &mut lanes, worker)?;
     }

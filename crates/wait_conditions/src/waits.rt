@@ -76,7 +76,7 @@ impl<A: Allocator + Copy> Waits<A> {
         ensures serials { result.next ≡ 1 }
     {
         Waits {
-            // How many moments have come.
+            // How many moments have come; what is known of each service; the waiters; the next one's serial; memory for a step's moments.
             count: 0,
             states: ServiceStates::new(alloc),
             list: WaiterList::new(alloc),
@@ -169,7 +169,7 @@ impl<A: Allocator + Copy> Waits<A> {
         self.admit(condition, mode, sids, timeout, start)
     }
 
-    // Makes a waiter that begins here, or answers why not. For the proof of `add`: its clauses speak only of what is stored.
+    // Makes a waiter that begins after all moments that `states` took in, or says why not. For the proof of `add`: its clauses are of what is stored.
     fn admit(
         &mut self,
         condition: Condition,
@@ -473,7 +473,7 @@ impl<A: Allocator + Copy> Waits<A> {
         self.make(plan);
     }
 
-    // Makes the step of a plan, without taking memory. For the proof of `commit`: its clause speaks only of what is stored.
+    // Makes the step of a plan, without taking memory; `spare` keeps that of its moments. For the proof of `commit`: its clause is of what is stored.
     #[inline(always)]
     fn make(&mut self, plan: WaitsPlan<A>)
         requires { FitsWaits plan self.old }
