@@ -1,7 +1,7 @@
 #!/usr/bin/env python3
 """Tries the wrong bodies: the prover must refuse each function that one of them is put into.
 
-    wrong_bodies.py [CRATE | CRATE/NAME]..
+    wrong_bodies.py [--minutes N] [CRATE | CRATE/NAME]..
 
 Without names, those that rt ci passes by: crates/CRATE/must-fail/NAME.edit.md. One has lines 'file:', 'old:' and 'new:', as rt must-fail reads
 them in NAME.edit, and a line 'only:' with the function whose promise it breaks. The change is made in a copy of the crate, and that function is checked there with those
@@ -10,9 +10,11 @@ that it calls (rattle check --only), over the libraries that rt ci, or rt lib in
 What is proved of a function rests on what others promise, and not on their bodies. So wrong bodies of different functions are tried
 together, and alone where the change isn't in one body. One is refused where the prover reads it and finds no proof of that function.
 
-The status is 0 where each is refused, 1 where one isn't, and 130 after Ctrl-C. No process and no copy is left afterwards.
+With --minutes none is begun later than so many minutes from now, and the last line says how many were left out for that.
+
+The status is 0 where each that was tried is refused, 1 where one isn't, and 130 after Ctrl-C. No process and no copy is left afterwards.
 """
-import concurrent.futures, glob, os, re, shutil, signal, subprocess, sys, tempfile
+import argparse, concurrent.futures, glob, os, random, re, shutil, signal, subprocess, sys, tempfile, time
 
 # The toolchain's own words for a check of a crate.
 sys.path.insert(0, os.path.dirname(os.path.realpath(shutil.which("rt") or "rt")))
@@ -140,15 +142,21 @@ def in_rounds(bodies):
     return sorted(rounds, key=len, reverse=True)
 
 
-def try_all(bodies, crates, lanes, folder):
-    """Tries wrong bodies, so many rounds at a time. How many are not refused."""
+def try_all(bodies, crates, lanes, folder, end):
+    """Tries wrong bodies, so many rounds at a time, and begins none after the moment `end`. How many are not refused, and how many were left out."""
 
     def try_round(bodies):
+        if time.monotonic() > end:
+            return 0, len(bodies)
         with tempfile.TemporaryDirectory(dir=folder) as place:
-            return try_together(Copy(crates[bodies[0].crate], place), bodies)
+            return try_together(Copy(crates[bodies[0].crate], place), bodies), 0
 
+    rounds = in_rounds(bodies)
+    if end != float("inf"):
+        # Which are left out is not always the same.
+        random.shuffle(rounds)
     with concurrent.futures.ThreadPoolExecutor(lanes) as pool:
-        return sum(pool.map(try_round, in_rounds(bodies)))
+        return [sum(counts) for counts in zip(*pool.map(try_round, rounds))]
 
 
 def usable_processors():
@@ -167,7 +175,12 @@ def wanted(names):
 
 def main():
     os.chdir(os.path.join(os.path.dirname(os.path.abspath(__file__)), ".."))
-    bodies = wanted(sys.argv[1:])
+    parser = argparse.ArgumentParser(usage="wrong_bodies.py [--minutes N] [CRATE | CRATE/NAME]..")
+    parser.add_argument("--minutes", type=float, default=float("inf"))
+    parser.add_argument("names", nargs="*")
+    words = parser.parse_args()
+    end = time.monotonic() + words.minutes * 60
+    bodies = wanted(words.names)
     if not bodies:
         sys.exit("wrong_bodies: no such crate, and no such wrong body")
     crates = {crate.name: crate for crate in rtlib.crates_below(os.getcwd())}
@@ -181,9 +194,9 @@ def main():
 
         for number in (signal.SIGINT, signal.SIGTERM, signal.SIGHUP):
             signal.signal(number, leave)
-        left = try_all(bodies, crates, usable_processors(), folder)
-    print("%d wrong bodies tried, %d not refused" % (len(bodies), left))
-    return 1 if left else 0
+        found, left_out = try_all(bodies, crates, usable_processors(), folder, end)
+    print("%d wrong bodies tried, %d not refused%s" % (len(bodies) - left_out, found, ", %d left out for want of time" % left_out if left_out else ""))
+    return 1 if found else 0
 
 
 sys.exit(main())
