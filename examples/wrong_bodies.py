@@ -10,9 +10,11 @@ that it calls (rattle check --only), over the libraries that rt ci, or rt lib in
 What is proved of a function rests on what others promise, and not on their bodies. So wrong bodies of different functions are tried
 together, and alone where the change isn't in one body. One is refused where the prover reads it and finds no proof of that function.
 
-With --minutes none is begun later than so many minutes from now, and the last line says how many were left out for that.
+With --minutes none is begun later than so many minutes from now. Those that break a promise of PROMISES come first. A line names each that was left out,
+and the last line says how many these are.
 
-The status is 0 where each that was tried is refused, 1 where one isn't, and 130 after Ctrl-C. No process and no copy is left afterwards.
+The status is 0 where each that was tried is refused and none of PROMISES was left out, else 1, and 130 after Ctrl-C. No process and no copy is left
+afterwards.
 """
 import argparse, concurrent.futures, glob, os, random, re, shutil, signal, subprocess, sys, tempfile, time
 
@@ -25,6 +27,12 @@ import rtlib
 CHECK_MEMORY = 3_000_000
 # The most wrong bodies that are tried together.
 TOGETHER = 12
+# The promises of the whole, by the names of the wrong bodies that break them.
+PROMISES = """
+    all-held-at-some-time waiters-once-a-step wait-for-a-new-up up-before-subscribing down-before-failure old-generation-dies pause-off-by-one
+    tally-forgets-newest repeat-keeps-old-text old-sid-for-new-service cut-too-early second-spelling transcript-twice room-drops-input
+    row-of-a-later-step opening-shot-forever orders-swapped death-not-given one-lock-for-all always-full waiters-begin-anew half-a-message
+    """.split()
 # The words for a proof that names what the change took away, which says nothing of a promise.
 NAME_LOST = r"has no field|is not in scope|has no `|was not admitted"
 RUNNING = set()
@@ -45,6 +53,10 @@ class WrongBody:
                 self.changes.append((text, ""))
             elif word == "new":
                 self.changes[-1] = self.changes[-1][0], text
+
+    def breaks_a_promise(self):
+        """Whether it breaks a promise of the whole."""
+        return self.label.split("/")[1] in PROMISES
 
     def is_one_body(self):
         """Whether nothing is changed but the body of one function."""
@@ -143,20 +155,22 @@ def in_rounds(bodies):
 
 
 def try_all(bodies, crates, lanes, folder, end):
-    """Tries wrong bodies, so many rounds at a time, and begins none after the moment `end`. How many are not refused, and how many were left out."""
+    """Tries wrong bodies, so many rounds at a time, and begins none after the moment `end`. How many are not refused, and which were left out."""
 
     def try_round(bodies):
         if time.monotonic() > end:
-            return 0, len(bodies)
+            return 0, bodies
         with tempfile.TemporaryDirectory(dir=folder) as place:
-            return try_together(Copy(crates[bodies[0].crate], place), bodies), 0
+            return try_together(Copy(crates[bodies[0].crate], place), bodies), []
 
     rounds = in_rounds(bodies)
     if end != float("inf"):
         # Which are left out is not always the same.
         random.shuffle(rounds)
+        rounds.sort(key=lambda bodies: not any(body.breaks_a_promise() for body in bodies))
     with concurrent.futures.ThreadPoolExecutor(lanes) as pool:
-        return [sum(counts) for counts in zip(*pool.map(try_round, rounds))]
+        ends = list(pool.map(try_round, rounds))
+    return sum(found for found, _ in ends), [body for _, bodies in ends for body in bodies]
 
 
 def usable_processors():
@@ -195,8 +209,11 @@ def main():
         for number in (signal.SIGINT, signal.SIGTERM, signal.SIGHUP):
             signal.signal(number, leave)
         found, left_out = try_all(bodies, crates, usable_processors(), folder, end)
-    print("%d wrong bodies tried, %d not refused%s" % (len(bodies) - left_out, found, ", %d left out for want of time" % left_out if left_out else ""))
-    return 1 if found else 0
+    for body in sorted(left_out, key=lambda body: body.label):
+        print("wrong body %s: left out%s" % (body.label, ", and it breaks a promise of the whole" * body.breaks_a_promise()))
+    late = ", %d left out for want of time" % len(left_out) if left_out else ""
+    print("%d wrong bodies tried, %d not refused%s" % (len(bodies) - len(left_out), found, late))
+    return 1 if found or any(body.breaks_a_promise() for body in left_out) else 0
 
 
 sys.exit(main())

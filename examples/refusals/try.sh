@@ -1,13 +1,13 @@
 #!/bin/sh
 # Runs the trial of refused memory once for each growth that it asks for, which is refused then. Each run has to print what it prints with
-# ample memory.
+# ample memory. It needs a C compiler: CC, or cc.
 #
 #   examples/refusals/try.sh [PROGRAM]
 cd "$(dirname "$0")/../.." || exit 111
 program=${1:-$PWD/crates/refusal_trial/out/refusal_trial}
 case $program in /*) ;; *) program=$PWD/$program ;; esac
 compiler=${CC:-cc}
-command -v "${compiler%% *}" >/dev/null || { echo "refusals: skipped: no C compiler"; exit 0; }
+command -v "${compiler%% *}" >/dev/null || { echo "refusals: no C compiler $compiler: set CC"; exit 1; }
 folder=$(mktemp -d) || exit 111
 trap 'rm -rf "$folder"' EXIT
 $compiler -O1 -shared -fPIC -o "$folder/refuse.so" examples/refusals/refuse.c -ldl || exit 111
