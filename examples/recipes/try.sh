@@ -75,10 +75,11 @@ recipe() {
 skip() { echo "skipped $1: $2"; }
 has() { command -v "$1" >/dev/null; }
 
-# Each trial of logs: a line is there, the daemon dies and the next one's line is there, the reader dies and nothing of it is lost.
+# try_logged FILE [WORDS]. Each trial of logs: a line is there, behind these words, the daemon dies and the next one's line is there, the reader dies
+# and nothing of it is lost, the tree ends and the daemon's last line is there.
 try_logged() {
     log=$place/$1
-    soon grep -qs 'app: starts' "$log" || { echo "no first line in $1"; return 1; }
+    soon grep -qs "$2app: starts" "$log" || { echo "no first line in $1"; return 1; }
     before=$(pid app-log)
     "$t" svc "$SOCKET" -k app
     two_lines() { [ "$(lines 'app: starts' "$log")" -eq 2 ]; }
@@ -89,9 +90,15 @@ try_logged() {
     "$t" svc "$SOCKET" -u app-log
     three_lines() { [ "$(lines 'app: starts' "$log")" -eq 3 ]; }
     soon three_lines || { echo "a line was lost while the reader was down"; return 1; }
+    kill -TERM "$entry"
+    wait "$entry"
+    entry=
+    grep -q "$2app: ends" "$log" || { echo "the last line was lost"; return 1; }
 }
 start_tree logged
 recipe logged try_logged app-log/current
+start_tree logged-name
+recipe logged-name try_logged .out 'app: '
 if has s6-log; then
     start_tree logged-s6-log
     recipe logged-s6-log try_logged app-log/log/current
@@ -136,6 +143,22 @@ if has python3 && has bash; then
     start_tree waiting
     recipe waiting try_waiting
 else skip waiting "no python3 or bash"; fi
+
+try_polled() {
+    "$t" svwait "$SOCKET" -u -t 20000 app || return
+    ! "$t" svwait "$SOCKET" -U -t 1000 app || { echo "it is ready before it answers"; return 1; }
+    : >"$place/app/data/answers"
+    "$t" svwait "$SOCKET" -U -t 20000 app || return
+    no_child() { ! grep -qs "^PPid:[[:space:]]*$(pid app)\$" /proc/[0-9]*/status; }
+    soon no_child || { echo "the daemon has a child"; return 1; }
+    rm "$place/app/data/answers"
+    "$t" svlisten "$SOCKET" -r -t 20000 app -- "$t" svc "$SOCKET" -k app || return
+    "$t" svlisten "$SOCKET" -D -t 20000 app -- "$t" svc "$SOCKET" -d app || return
+    none_left() { ! readlink /proc/[0-9]*/cwd | grep -qxF "$place/app"; }
+    soon none_left || { echo "what asks outlives the daemon"; return 1; }
+}
+start_tree polled
+recipe polled try_polled
 
 try_oneshot() {
     "$t" svwait "$SOCKET" -U -t 20000 database || return
@@ -216,6 +239,78 @@ elif unshare --pid --fork --mount-proc true 2>/dev/null; then
     recipe container try_container
 else skip container "no namespaces for this user"; fi
 
+# Whether a process has ended, though its parent may not know it yet.
+has_ended() { ! grep -qs '^State:[[:space:]]*[^Z[:space:]]' "/proc/$1/status"; }
+
+# start_entry WORDS..: starts entry.sh with the services of this trial's place, where `app` has the script APP.
+start_entry() {
+    place=$folder/entry
+    SOCKET=$place/socket
+    rm -rf "$place" && mkdir -p "$place/services/app" "$place/services/other" || return
+    printf '#!/bin/sh\nexec sleep infinity\n' >"$place/services/other/run"
+    printf '#!/bin/sh\n%s\n' "$APP" >"$place/services/app/run"
+    chmod 755 "$place"/services/*/run
+    env --default-signal=INT,QUIT sh "$here/../container/entry.sh" "$place/services" "$SOCKET" "$place/record" "$@" >"$place/out" 2>&1 &
+    entry=$!
+}
+
+# ends_with STATUS [SIGNAL]: whether it ends so, within twenty seconds, and leaves nothing.
+ends_with() {
+    [ -z "$2" ] || kill -"$2" "$entry"
+    soon has_ended "$entry" || { echo "entry.sh did not end"; return 1; }
+    wait "$entry"
+    ended=$?
+    entry=
+    is "$ended" "$1" || { echo "status $ended in place of $1: $(cat "$place/out")"; return 1; }
+    ! grep -ls "$place" /proc/[0-9]*/cmdline || { echo "something is left"; return 1; }
+}
+
+# Ends what a trial of entry.sh left where it failed: whatever has a place of this trial among its words, or works there.
+end_left() {
+    for left in /proc/[0-9]*; do
+        if grep -q "$folder/entry/" "$left/cmdline" || readlink "$left/cwd" | grep -q "^$folder/entry/"; then
+            kill -KILL "${left#/proc/}"
+        fi
+    done 2>/dev/null
+}
+
+try_grace() {
+    export GRACE=3
+    start_entry && soon "$t" svwait "$SOCKET" -u -t 5000 app other || return
+    other=$(pid other)
+    kill -STOP "$(awk '/^PPid:/ { print $2 }' "/proc/$other/status")" || return
+    read -r begun _ </proc/uptime
+    ends_with 137 TERM || return
+    read -r now _ </proc/uptime
+    has_ended "$other" || { echo "a service is left"; return 1; }
+    awk "BEGIN { exit !($now - $begun < 3) }" || { echo "GRACE was not kept: $begun to $now"; return 1; }
+}
+
+try_main() {
+    export MAIN=app
+    APP='exit 7' && start_entry && ends_with 7 && APP='kill -KILL $$' && start_entry && ends_with 137 || return
+    "$t" replay --check <"$place/record"
+}
+
+# A quote, a dollar sign and a space go through; the working directory is that of this script.
+try_command() {
+    start_entry -- sh -c 'printf "<%s>" "$@" "$PWD"; exit 9' - "it's" '$x y' && ends_with 9 || return
+    grep -qF "<it's><\$x y><$PWD>" "$place/out" || { cat "$place/out"; return 1; }
+    start_entry -- no-such-program && ends_with 127 || return
+    start_entry -- "$place/services/other" && ends_with 126
+}
+
+try_quit() {
+    start_entry && soon "$t" svwait "$SOCKET" -u -t 5000 app || return
+    ends_with 0 QUIT
+}
+APP='exec sleep infinity'
+if env --default-signal=QUIT true 2>/dev/null; then
+    for what in grace main command quit; do
+        recipe "container-$what" eval "(try_$what) || { end_left; false; }"
+    done
+else skip container-quit "env sets no signal back"; fi
+
 if has systemd-analyze; then
     # The program is not installed here, so what it says of that is passed over.
     try_systemd() {
@@ -226,8 +321,8 @@ else skip systemd-unit "no systemd-analyze"; fi
 
 try_from_s6() {
     place=$folder/from-s6
-    mkdir -p "$place/plain" "$place/a:b" "$place/logged/log" "$place/tools" "$place/fd" "$place/checked" "$place/.s6-svscan" || return
-    for service in plain a:b logged tools fd checked; do
+    mkdir -p "$place/plain" "$place/a:b" "$place/logged/log" "$place/tools" "$place/fd" "$place/checked" "$place/slow" "$place/.s6-svscan" || return
+    for service in plain a:b logged tools fd checked slow; do
         printf '#!/bin/sh\nexec sleep 1\n' >"$place/$service/run"
     done
     printf '#!/bin/sh\nexec s6-permafailon 60 3 1 true\n' >"$place/tools/finish"
@@ -235,12 +330,16 @@ try_from_s6() {
     printf '#!/bin/sh\nexec s6-notifyoncheck sleep 1\n' >"$place/checked/run"
     echo 3 >"$place/checked/notification-fd"
     echo 12 >"$place/fd/notification-fd"
+    echo 5s >"$place/slow/timeout-kill"
+    echo 05000 >"$place/plain/timeout-kill"
     found=$(sh "$here/from-s6/check.sh" "$place")
     is $? 1 || { echo "status"; return 1; }
     for line in '^plain: works as it is' '^a:b: change: its name' '^logged: change: log/' '^tools: change: s6-permafailon' \
-        '^tools: change: s6-svwait' '^checked: change: s6-notifyoncheck' '^checked: note: what run writes to descriptor 1' '^fd: change: NotifyFd' '^.s6-svscan: note'; do
+        '^tools: change: s6-svwait' '^checked: change: s6-notifyoncheck' '^checked: note: what run writes to descriptor 1' '^fd: change: NotifyFd' \
+        '^slow: change: timeout-kill' '^.s6-svscan: note'; do
         printf '%s\n' "$found" | grep -q "$line" || { echo "no line $line"; return 1; }
     done
+    is "$(printf '%s\n' "$found" | grep -c 'works as it is')" 1 || { echo "more than one works as it is"; return 1; }
 }
 recipe from-s6 try_from_s6
 exit "$status"

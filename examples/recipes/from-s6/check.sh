@@ -1,5 +1,6 @@
 #!/bin/sh
-# check.sh DIRECTORY: says of each service directory of an s6 scan directory whether svscan can run it as it is. Status 0 if all can, else 1.
+# check.sh DIRECTORY: says of each service directory of an s6 scan directory whether svscan can run it as it is: `change` is what stops it, `note`
+# what is otherwise. Status 0 if no line says `change`, else 1.
 #
 #   S6_TREE=PROGRAM sh check.sh /run/service
 #
@@ -17,6 +18,8 @@ case $? in
 esac
 status=0
 clean=
+newline='
+'
 
 change() {
     clean=
@@ -25,7 +28,19 @@ change() {
 }
 
 note() {
+    clean=
     printf '%s: note: %s\n' "$name" "$1"
+}
+
+# Whether a file has what a number of svscan is: digits, at most 4294967295, and one newline at most.
+is_number() {
+    text=$(cat "$1" && echo .)
+    text=${text%.}
+    text=${text%"$newline"}
+    case $text in
+    "" | *[!0-9]*) return 1 ;;
+    esac
+    [ "$text" -le 4294967295 ] 2>/dev/null
 }
 
 # Whether `run` or `finish` has this word.
@@ -52,9 +67,9 @@ for place in ./*; do
     *": refused "*) change "svscan doesn't take it: ${verdict#*: refused }" ;;
     *": noted "*) change "${verdict#*: noted }" ;;
     esac
-    [ ! -e "$name/log" ] || change "log/ is not run: make the logger a service of its own (docs/RECIPES.md, Logs)"
+    [ ! -e "$name/log" ] || change "log/ is not run: make the logger a service of its own, which outlives the daemon's last lines (docs/RECIPES.md, Logs)"
     says s6-permafailon && change "s6-permafailon: exec \"\$S6_TREE\" permafailon \"\$SOCKET\" \"\$3\" SECS COUNT LIST, as the last line"
-    says 's6-notifyoncheck' && change "s6-notifyoncheck: write a loop that checks, and then a newline to the descriptor (docs/RECIPES.md, Waiting)"
+    says 's6-notifyoncheck' && change "s6-notifyoncheck: let run ask, and then write a newline to the descriptor (docs/RECIPES.md, Readiness by polling)"
     says 's6-svwait|s6-svlisten|s6-svlisten1' && change "s6-svwait, s6-svlisten: \"\$S6_TREE\" svwait \"\$SOCKET\" -U NAME, with names and no paths"
     says 's6-svc|s6-svstat|s6-svok|s6-svscanctl|s6-svdt|s6-permafailon' && ! says s6-permafailon &&
         change "s6-svc and its like find no supervise/ here: \"\$S6_TREE\" svc \"\$SOCKET\" -LETTERS NAME, svstat, list"
@@ -70,8 +85,12 @@ for place in ./*; do
     if [ -f "$name/down-signal" ] && ! printf 'SIG%s\n' "$(sed 's/^SIG//' "./$name/down-signal")" | grep -qE '^SIG([A-Z][A-Z0-9]*|[1-9]|[1-5][0-9]|6[0-4])$'; then
         change "down-signal: a name in capitals, or 1 to 64"
     fi
+    if [ -f "$name/timeout-kill" ] && ! is_number "./$name/timeout-kill"; then
+        change "timeout-kill: digits for milliseconds, at most 4294967295; as it is there is no SIGKILL"
+    fi
     [ -z "$clean" ] || printf '%s: works as it is\n' "$name"
 done
+echo "all: note: rights on supervise/ and event/ count for nothing: give a group the SOCKET (docs/OPERATIONS.md, Security)"
 echo "all: note: services lead no session of their own: where that matters, run ends with exec setsid DAEMON"
-[ ! -d .s6-svscan ] || echo ".s6-svscan: note: its scripts are not run; entry.sh makes of TERM and INT an end, of HUP a scan"
+[ ! -d .s6-svscan ] || echo ".s6-svscan: note: its scripts are not run; entry.sh makes of TERM, INT and QUIT an end, of HUP a scan"
 exit "$status"
