@@ -67,7 +67,7 @@ for place in ./*; do
     *": refused "*) change "svscan doesn't take it: ${verdict#*: refused }" ;;
     *": noted "*) change "${verdict#*: noted }" ;;
     esac
-    [ ! -e "$name/log" ] || change "log/ is not run: make the logger a service of its own, which outlives the daemon's last lines (docs/RECIPES.md, Logs)"
+    [ ! -e "$name/log" ] || change "log/ is not run: make the logger a service of its own, and see to its last lines (docs/RECIPES.md, Logs)"
     says s6-permafailon && change "s6-permafailon: exec \"\$S6_TREE\" permafailon \"\$SOCKET\" \"\$3\" SECS COUNT LIST, as the last line"
     says 's6-notifyoncheck' && change "s6-notifyoncheck: let run ask, and then write a newline to the descriptor (docs/RECIPES.md, Readiness by polling)"
     says 's6-svwait|s6-svlisten|s6-svlisten1' && change "s6-svwait, s6-svlisten: \"\$S6_TREE\" svwait \"\$SOCKET\" -U NAME, with names and no paths"
