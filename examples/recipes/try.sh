@@ -75,25 +75,25 @@ recipe() {
 skip() { echo "skipped $1: $2"; }
 has() { command -v "$1" >/dev/null; }
 
-# try_logged FILE [WORDS]. Each trial of logs: a line is there, behind these words, the daemon dies and the next one's line is there, the reader dies
-# and nothing of it is lost, the tree ends and the daemon's last line is there.
+# try_logged FILES [WORDS]. Each trial of logs: a line is there, behind these words, the daemon dies and the next one's line is there, the reader dies
+# and nothing of it is lost, the tree ends and the daemon's last line is there. s6-log and svlogd that were killed go on in a new file.
 try_logged() {
     log=$place/$1
-    soon grep -qs "$2app: starts" "$log" || { echo "no first line in $1"; return 1; }
+    starts="$2app: starts"
+    has_lines() { [ "$(cat $log 2>/dev/null | grep -c "$1")" -eq "$2" ]; }
+    soon has_lines "$starts" 1 || { echo "no first line in $1"; return 1; }
     before=$(pid app-log)
     "$t" svc "$SOCKET" -k app
-    two_lines() { [ "$(lines 'app: starts' "$log")" -eq 2 ]; }
-    soon two_lines || { echo "no line of the second daemon"; return 1; }
+    soon has_lines "$starts" 2 || { echo "no line of the second daemon"; return 1; }
     is "$(pid app-log)" "$before" || { echo "the reader died with the daemon"; return 1; }
     "$t" svlisten "$SOCKET" -D -t 20000 app-log -- "$t" svc "$SOCKET" -d app-log || return
     "$t" svlisten "$SOCKET" -r -t 20000 app -- "$t" svc "$SOCKET" -k app || return
     "$t" svc "$SOCKET" -u app-log
-    three_lines() { [ "$(lines 'app: starts' "$log")" -eq 3 ]; }
-    soon three_lines || { echo "a line was lost while the reader was down"; return 1; }
+    soon has_lines "$starts" 3 || { echo "a line was lost while the reader was down"; return 1; }
     kill -TERM "$entry"
     wait "$entry"
     entry=
-    grep -q "$2app: ends" "$log" || { echo "the last line was lost"; return 1; }
+    has_lines "$2app: ends" 1 || { echo "the last line was lost"; return 1; }
 }
 start_tree logged
 recipe logged try_logged app-log/current
@@ -101,11 +101,11 @@ start_tree logged-name
 recipe logged-name try_logged .out 'app: '
 if has s6-log; then
     start_tree logged-s6-log
-    recipe logged-s6-log try_logged app-log/log/current
+    recipe logged-s6-log try_logged 'app-log/log/*'
 else skip logged-s6-log "no s6-log"; fi
 if has svlogd; then
     start_tree logged-svlogd
-    recipe logged-svlogd try_logged app-log/log/current
+    recipe logged-svlogd try_logged 'app-log/log/*'
 else skip logged-svlogd "no svlogd"; fi
 
 try_user() {
