@@ -195,7 +195,8 @@ recipe health try_health
 try_prometheus() {
     soon is_state app failed || return
     "$t" list "$SOCKET" --json | python3 "$here/prometheus/metrics.py" >"$place/.metrics" || return
-    grep -qx 's6_tree_state{name="app",state="failed"} 1' "$place/.metrics" && grep -qx 's6_tree_wanted_up{name="app"} 0' "$place/.metrics"
+    grep -qx 's6_tree_exitcode{name="app"} 1' "$place/.metrics" &&
+        grep -qx 's6_tree_state{name="app",state="failed"} 1' "$place/.metrics" && grep -qx 's6_tree_wanted_up{name="app"} 0' "$place/.metrics"
 }
 if has python3; then
     start_tree give-up
@@ -292,12 +293,14 @@ try_main() {
     "$t" replay --check <"$place/record"
 }
 
-# A quote, a dollar sign and a space go through; the working directory is that of this script.
+# A quote, a dollar sign and a space go through; the working directory is that of this script; the folder for it is gone at the end.
 try_command() {
+    export TMPDIR="$folder/links"
+    mkdir -p "$TMPDIR" || return
     start_entry -- sh -c 'printf "<%s>" "$@" "$PWD"; exit 9' - "it's" '$x y' && ends_with 9 || return
     grep -qF "<it's><\$x y><$PWD>" "$place/out" || { cat "$place/out"; return 1; }
     start_entry -- no-such-program && ends_with 127 || return
-    start_entry -- "$place/services/other" && ends_with 126
+    start_entry -- "$place/services/other" && ends_with 126 && rmdir "$TMPDIR"
 }
 
 try_quit() {

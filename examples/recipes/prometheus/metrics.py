@@ -19,3 +19,6 @@ gauge("s6_tree_wanted_up", "1 where a service is to be started when it is down",
       [({"name": row["name"]}, int(row["wantedup"])) for row in rows if row["wantedup"] is not None])
 gauge("s6_tree_age_seconds", "for how many seconds a service has been up, or down",
       [({"name": row["name"]}, row["updownfor"]) for row in rows if row["updownfor"] is not None])
+for key in ("exitcode", "signal"):
+    gauge(f"s6_tree_{key}", f"the {key} of the last run of a service that is down",
+          [({"name": row["name"]}, row[key]) for row in rows if row[key] is not None])
