@@ -68,6 +68,7 @@ case $S6_TREE in
 esac
 S6_TREE=$(absolute "$S6_TREE")
 export S6_TREE SOCKET
+[ -r "/proc/$$/status" ] || fail 111 "/proc/$$/status can't be read: mount /proc, by which GRACE is kept and MAIN is watched"
 
 # Sets `parent` to the parent of a process, or to nothing where there is no such process.
 look_at() {
@@ -197,8 +198,9 @@ watch() {
     exit 111
 }
 
+# Ten others may have all places for waits: MAIN is looked at each 20 seconds all the same.
 wait_main() {
-    "$S6_TREE" svwait "$SOCKET" "$@" "$main" 2>/dev/null || sleep 0.2
+    "$S6_TREE" svwait "$SOCKET" "$@" -t 20000 "$main" 2>/dev/null || sleep 0.2
 }
 
 # main_ended STATUS [WORDS]: URG tells the script, which then waits for this status. Nobody else sends URG.
