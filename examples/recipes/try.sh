@@ -275,11 +275,18 @@ end_left() {
     done 2>/dev/null
 }
 
+# The number of a process's parent, or nothing where there is no such process.
+parent_of() {
+    awk '/^PPid:/ { print $2 }' "/proc/$1/status" 2>/dev/null
+}
+
 try_grace() {
     export GRACE=3
     start_entry && soon "$t" svwait "$SOCKET" -u -t 5000 app other || return
     other=$(pid other)
-    kill -STOP "$(awk '/^PPid:/ { print $2 }' "/proc/$other/status")" || return
+    server=$(parent_of "$other")
+    # svscan is the child of entry.sh whose child is `other`: nothing else is stopped.
+    is "$(parent_of "$server")" "$entry" && kill -STOP "$server" || return
     read -r begun _ </proc/uptime
     ends_with 137 TERM || return
     read -r now _ </proc/uptime
