@@ -342,11 +342,12 @@ try_from_s6() {
     echo 12 >"$place/fd/notification-fd"
     echo 5s >"$place/slow/timeout-kill"
     echo 05000 >"$place/plain/timeout-kill"
+    chmod 755 "$place"/*/run "$place"/*/finish
     found=$(sh "$here/from-s6/check.sh" "$place")
     is $? 1 || { echo "status"; return 1; }
-    for line in '^plain: works as it is' '^a:b: change: its name' '^logged: change: log/' '^tools: change: s6-permafailon' \
+    for line in '^plain: works as it is' '^a:b: change: its name' '^logged: change: Log: ' '^tools: change: s6-permafailon' \
         '^tools: change: s6-svwait' '^checked: change: s6-notifyoncheck' '^checked: note: what run writes to descriptor 1' '^fd: change: NotifyFd' \
-        '^slow: change: timeout-kill' '^.s6-svscan: note'; do
+        '^slow: change: TimeoutKill' '^.s6-svscan: note'; do
         printf '%s\n' "$found" | grep -q "$line" || { echo "no line $line"; return 1; }
     done
     is "$(printf '%s\n' "$found" | grep -c 'works as it is')" 1 || { echo "more than one works as it is"; return 1; }

@@ -1,4 +1,5 @@
-/* Refuses one growth of memory: the one of the number in REFUSE, counted from 1. How many there were is written into the file REFUSE_COUNT. */
+/* Refuses one growth of memory: the one of the number in REFUSE, counted from 1 through all threads. How many there were is written into the file
+   REFUSE_COUNT. */
 #define _GNU_SOURCE
 #include <dlfcn.h>
 #include <errno.h>
@@ -14,7 +15,7 @@ static int refuse(void) {
         const char *text = getenv("REFUSE");
         refused = text ? atol(text) : 0;
     }
-    if (++count != refused)
+    if (__atomic_add_fetch(&count, 1, __ATOMIC_SEQ_CST) != refused)
         return 0;
     errno = ENOMEM;
     return 1;

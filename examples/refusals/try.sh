@@ -1,6 +1,6 @@
 #!/bin/sh
 # Runs the trial of refused memory once for each growth that it asks for, which is refused then. Each run has to print what it prints with
-# ample memory. It needs a C compiler: CC, or cc.
+# ample memory, within a minute. How its threads take turns changes the number of growths a little from run to run. It needs a C compiler: CC, or cc.
 #
 #   examples/refusals/try.sh [PROGRAM]
 cd "$(dirname "$0")/../.." || exit 111
@@ -12,9 +12,9 @@ folder=$(mktemp -d) || exit 111
 trap 'rm -rf "$folder"' EXIT
 $compiler -O1 -shared -fPIC -o "$folder/refuse.so" examples/refusals/refuse.c -ldl || exit 111
 
-# Runs it with one growth refused; with 0, none.
+# Runs it with one growth refused; with 0, none. One that waits for what was lost is ended after a minute.
 run() {
-    LD_PRELOAD=$folder/refuse.so REFUSE=$1 REFUSE_COUNT=$folder/count "$program" >"$folder/said"
+    timeout 60 env LD_PRELOAD="$folder/refuse.so" REFUSE="$1" REFUSE_COUNT="$folder/count" "$program" >"$folder/said"
 }
 
 run 0 && mv "$folder/said" "$folder/wanted" || { echo "refusals: the trial failed with ample memory"; exit 1; }

@@ -10,6 +10,7 @@ use Rattle.child_runner.proofs.bell.Bell.TheSendSync as bell
 use Rattle.child_runner.proofs.lane_link.LaneLink.TheSendSync as link
 use Rattle.child_runner.proofs.shared_child.ServiceProcess.TheSendSync as process
 use Rattle.child_runner.proofs.roster.ChildList.TheSendSync as roster
+use Rattle.child_runner.proofs.trials.Trial.TheSendSync as trial
 use Rattle.child_runner.specs.contracts.backend.ProcessBackend as ProcessBackend
 use Rattle.child_runner.specs.contracts.backend.ProcessBackend.TheInside as Inside
 use Rattle.child_runner.specs.contracts.lane_link.LaneLink as LaneLink
@@ -42,8 +43,11 @@ inside_send R r =
                 (
                   search (process.the_send, process.the_sync, crosses, sendable) depth 60 fits 20000,
                   (
-                    search (crosses, sendable) depth 60 fits 20000,
-                    (search sendable, (roll_send, tt)),
+                    search (trial.the_send, crosses, sendable) depth 60 fits 20000,
+                    (
+                      search (crosses, sendable) depth 60 fits 20000,
+                      (search sendable, (roll_send, tt)),
+                    ),
                   ),
                 ),
               ),

@@ -5,23 +5,27 @@ ghost use Rattle.child_runner.specs.Roll.{with_asked};
 
 use crate::bell::Bell;
 use crate::keeper::Keeper;
-use crate::order_commands::{
-    directory_of, finish_command, is_executable, is_read, path_of, run_command, text_of,
-};
+use crate::lane_thread::LaneWorker;
+use crate::launch::{Launch, failure_note, launch_of};
+use crate::order_commands::text_of;
 use crate::roll::Roll;
 use crate::roster::ChildList;
 use crate::shared_child::{Pipe, ServiceProcess};
 use crate::shell::{Sending, signal_child};
-use crate::started_program::{Program, Start, is_last};
+use crate::start_fault::StartFault;
+use crate::started_program::{Start, is_last};
+use crate::trials::{Schedule, Trial, Unwanted, millis_of};
 use error_notes::Notes;
 use order_lanes::{AskFault, Backend, Report};
 use s6_events::{Name, NoMemory, Order, SIGKILL, Sid};
 use std::alloc::{AllocError, Global};
-use std::io;
+use std::collections::VecDeque;
+use std::fs::File;
 use std::marker::Model;
-use std::process::{Child, Command, Processes, Stdio, SystemProcess};
+use std::process::{Child, Processes, SystemProcess};
 use std::rt::Files;
 use std::sync::{Arc, Wait};
+use std::time::Clock;
 
 /// A backend whose services are processes. The directory of a service is `root/NAME`, and its programs run there. `roster` lists the children
 /// of all backends of a keeper, `processes` those of this one whose end was not reported yet; `turn` is which of them is asked first for a
@@ -35,6 +39,8 @@ pub struct ProcessBackend<R> {
     bell: Arc<Bell, Global>,
     notes: Arc<Notes, Global>,
     processes: Vec<Arc<ServiceProcess, Global>>,
+    // Starts that failed for a fault of the moment, and are tried again.
+    trials: VecDeque<Trial, Global>,
     // The services for which a note said that no signal can be sent to them.
     deaf: Vec<Sid>,
     turn: usize,
@@ -53,16 +59,6 @@ impl<R> Model for ProcessBackend<R> {
 fn deaf_text(alloc: Global, root: &str, name: &Name) -> Result<String, AllocError> {
     let name = text_of(name);
     format!(in alloc; "svscan: {root}/{name} can't be signalled: no shell\n")
-}
-
-/// What is needed to start a program of the service `name`: the command, the path of the program that has to be there, and whether the child's
-/// output is read.
-#[derive(Drop)]
-struct Launch {
-    name: Name,
-    command: Command,
-    path: String,
-    is_read: bool,
 }
 
 impl<R: Drop> ProcessBackend<R> {
@@ -90,12 +86,14 @@ impl<R: Drop> ProcessBackend<R> {
             notes: Arc::try_clone(notes)?,
             // The children of this backend whose end was not reported yet.
             processes: Vec::new(alloc),
+            // Starts that are tried again.
+            trials: VecDeque::new(alloc),
             // The services for which a note said that no signal can be sent to them.
             deaf: Vec::new(alloc),
             // Which child is asked first for a report.
             turn: 0,
             // Which starts were ordered and may still be reported on.
-            roll: Roll::new(alloc),
+            roll: Roll::new(alloc)?,
         })
     }
 
@@ -105,16 +103,18 @@ impl<R: Drop> ProcessBackend<R> {
     }
 }
 
-impl<R: Processes<Started = SystemProcess> + Files + Wait + Drop> ProcessBackend<R> {
-    // Starts the program of the launch. One that can't be started is reported.
-    fn start(&mut self, order: &Order, start: &Start, launch: Launch) -> Result<(), AskFault>
+impl<
+    R: Processes<Started = SystemProcess> + Files<File = File> + Wait + Clock + Drop,
+> ProcessBackend<R> {
+    // Starts the program that this order starts, of the service `name`. One that can't be started is reported.
+    fn start(&mut self, order: &Order, name: &Name, start: &Start) -> Result<(), AskFault>
         ensures added { OnOk result (self.new ≡ record self.old {
           asked = self.old.asked ++ order.now ∷ [];
           living = self.old.living ++ order.now ∷ [];
         }) }
         ensures same { OnErr result (self.new ≡ self.old) }
     {
-        match self.enter_and_run(order, start, launch) {
+        match self.enter_and_run(order, name, start) {
             Ok(()) => Ok(()),
             Err(_) => Err(AskFault::NoMemory),
         }
@@ -123,69 +123,150 @@ impl<R: Processes<Started = SystemProcess> + Files + Wait + Drop> ProcessBackend
     // Enters the child in `roster`, the list of the keeper, which starts the threads of children, and in `roll`, the list of starts that may be
     // reported on; and starts its program. It takes all memory before, so at `NoMemory` nothing was started. A program that can't be started is
     // reported.
-    fn enter_and_run(
-        &mut self,
-        order: &Order,
-        start: &Start,
-        launch: Launch,
-    ) -> Result<(), NoMemory>
+    fn enter_and_run(&mut self, order: &Order, name: &Name, start: &Start) -> Result<(), NoMemory>
         ensures added { OnOk result (self.new ≡ record self.old {
           asked = self.old.asked ++ order.now ∷ [];
           living = self.old.living ++ order.now ∷ [];
         }) }
         ensures same { OnErr result (self.new ≡ self.old) }
     {
+        let launch = launch_of(self.alloc, self.root.as_str(), order)?;
         let bell = Arc::try_clone(&self.bell)?;
         // The child's number on the roster, not that of its process.
         let number = self.roster.take_number(&self.rt);
-        let process = Arc::new(
-            self.alloc,
-            ServiceProcess::new(number, start, &launch.name, bell),
-        )?;
+        let process = Arc::new(self.alloc, ServiceProcess::new(number, start, name, bell))?;
+        let theirs = Arc::try_clone(&process)?;
         self.processes.reserve(1)?;
+        self.trials.reserve(1)?;
         self.roster.enter(&self.rt, &process)?;
         if let Err(refused) = self.roll.start(order) {
             self.roster.leave(&self.rt, number);
             return Err(refused);
         }
-        self.run(&process, launch);
         self.processes.push_reserved(process);
+        self.run(theirs, order, launch);
         Ok(())
     }
 
-    // Starts the child. One that can't be started is noted too, since it has no program that could say so.
-    fn run(&self, process: &ServiceProcess, mut launch: Launch) {
-        match self.spawn(&mut launch) {
-            Some((child, pipe)) => {
-                // The keeper starts the threads that watch the child.
-                process.begin(&self.rt, child, pipe);
-                self.roster.begin(&self.rt, process.number);
+    // Starts the child. Where that fails for a fault of the moment, it is tried again later.
+    fn run(&mut self, process: Arc<ServiceProcess, Global>, order: &Order, launch: Option<Launch>)
+        ensures { self.new ≡ self.old }
+    {
+        match spawn(&self.rt, self.alloc, launch) {
+            Ok((child, pipe)) => self.begin(&process, child, pipe),
+            Err(StartFault::Passing) => {
+                let schedule = Schedule::begin(millis_of(&self.rt));
+                self.put_back(Trial {
+                    process,
+                    order: *order,
+                    schedule,
+                });
             }
+            Err(StartFault::Lasting) => self.fail(&process, order),
+        }
+    }
+
+    // Puts a start at the end of those that are tried again. Where memory for it is refused, it is given up.
+    fn put_back(&mut self, trial: Trial)
+        ensures { self.new ≡ self.old }
+    {
+        if let Err(refused) = self.trials.push_back(trial) {
+            let trial = refused.value;
+            self.fail(&trial.process, &trial.order);
+        }
+    }
+
+    // The child runs.
+    fn begin(&self, process: &ServiceProcess, child: Child<SystemProcess>, pipe: Option<Pipe>) {
+        // The keeper starts the threads that watch the child.
+        process.begin(&self.rt, child, pipe);
+        self.roster.begin(&self.rt, process.number);
+    }
+
+    // The child can't be started. That is noted too, since it has no program that could say so.
+    fn fail(&self, process: &ServiceProcess, order: &Order) {
+        self.note(&failure_note(self.alloc, self.root.as_str(), order));
+        self.give_up(process);
+    }
+
+    // The child is not started: that is reported, and the keeper's list forgets it.
+    fn give_up(&self, process: &ServiceProcess) {
+        process.fail(&self.rt);
+        self.roster.leave(&self.rt, process.number);
+    }
+
+    // Tries a start again, if its time has come. Returns it where it is to be tried once more.
+    fn tried(&self, mut trial: Trial, now: u64) -> Option<Trial> {
+        if trial.schedule.time_left(now) > 0 {
+            return Some(trial);
+        }
+        trial.schedule.note_try(now);
+        let launch = launch_of(self.alloc, self.root.as_str(), &trial.order);
+        // That memory is refused passes.
+        let spawned = match launch {
+            Ok(launch) => spawn(&self.rt, self.alloc, launch),
+            Err(_) => Err(StartFault::Passing),
+        };
+        match spawned {
+            Ok((child, pipe)) => self.begin(&trial.process, child, pipe),
+            Err(StartFault::Passing) if !trial.schedule.is_over(now) => return Some(trial),
+            Err(_) => self.fail(&trial.process, &trial.order),
+        }
+        None
+    }
+
+    // Goes over the first of the starts that are tried again: it is given up if `unwanted` holds of it, else tried if its time has come. It stands
+    // last then, if it is to be tried once more.
+    fn go_over_first(&mut self, unwanted: &Option<Unwanted>, now: u64)
+        ensures { self.new ≡ self.old }
+    {
+        let Some(trial) = self.trials.pop_front() else {
+            return;
+        };
+        match unwanted {
+            Some(unwanted) if unwanted.holds_of(&trial.process.name) => {
+                self.give_up(&trial.process);
+            }
+            Some(_) => self.put_back(trial),
             None => {
-                self.note(&format!(in self.alloc; "svscan: {} can't be started\n", launch.path));
-                // The failure is reported, and the keeper's list forgets the child.
-                process.fail(&self.rt);
-                self.roster.leave(&self.rt, process.number);
+                if let Some(trial) = self.tried(trial, now) {
+                    self.put_back(trial);
+                }
             }
         }
     }
 
-    // Starts the child. Returns it, and the pipe by which its output is read, if it is to be (`is_read`), as where the service tells by it that it
-    // is ready. None where the child can't be started.
-    fn spawn(&self, launch: &mut Launch) -> Option<(Child<SystemProcess>, Option<Pipe>)> {
-        if !is_executable(&self.rt, launch.path.as_str()) {
-            return None;
+    // Goes over all starts that are tried again.
+    fn go_over_all(&mut self, unwanted: &Option<Unwanted>, now: u64)
+        ensures { self.new ≡ self.old }
+    {
+        for _step in 0..self.trials.len() {
+            self.go_over_first(unwanted, now);
         }
-        let mut pipe = None;
-        if launch.is_read {
-            // `theirs` is the child's standard output. By `writer`, a second writing end, a mark is written behind the last byte of the child.
-            let (reader, theirs) = io::pipe(&self.rt).ok()?;
-            let writer = theirs.try_clone().ok()?;
-            launch.command.stdout(Stdio::from(theirs));
-            pipe = Some(Pipe { reader, writer });
-        }
-        let child = launch.command.spawn(&self.rt).ok()?;
-        Some((child, pipe))
+    }
+
+    // Gives up this start, if it is tried again: its `finish` is late before it has begun.
+    fn end_trial(&mut self, start: &Start)
+        ensures { self.new ≡ self.old }
+    {
+        let Some(place) = self.place_of(start) else {
+            return;
+        };
+        // There is a child at this index: `place_of` gave it.
+        let Some(process) = self.processes.get(place) else {
+            return;
+        };
+        // No other start of the service is tried meanwhile.
+        let unwanted = Some(Unwanted::Service(process.name));
+        self.go_over_all(&unwanted, 0);
+    }
+
+    // After how many milliseconds the first of the starts is tried again; None where there is none.
+    fn next_try(&self, now: u64) -> Option<u64> {
+        self.trials
+            .iter()
+            .map(|trial| trial.schedule.time_left(now))
+            .min()
     }
 
     // Posts a note, if there was memory for it.
@@ -255,28 +336,6 @@ impl<R: Processes<Started = SystemProcess> + Files + Wait + Drop> ProcessBackend
         let _ = self.deaf.push(sid);
     }
 
-    // How `run` is started.
-    fn launch_of_run(&self, name: &Name, fd: Option<u8>) -> Result<Launch, NoMemory> {
-        let directory = directory_of(self.alloc, self.root.as_str(), name)?;
-        Ok(Launch {
-            name: *name,
-            command: run_command(self.alloc, directory.as_str(), name, fd)?,
-            path: path_of(self.alloc, directory.as_str(), &Program::Run)?,
-            is_read: is_read(fd),
-        })
-    }
-
-    // How `finish` is started.
-    fn launch_of_finish(&self, name: &Name, code: u16, signal: u8) -> Result<Launch, NoMemory> {
-        let directory = directory_of(self.alloc, self.root.as_str(), name)?;
-        Ok(Launch {
-            name: *name,
-            command: finish_command(self.alloc, directory.as_str(), name, code, signal)?,
-            path: path_of(self.alloc, directory.as_str(), &Program::Finish)?,
-            is_read: false,
-        })
-    }
-
     // Carries out an order: starts the `run` or the `finish` of a service, or sends a signal to one that still lives. `Busy` where no signal can
     // be sent now, `NoMemory` where memory is refused: then the order is to be asked again. A `Start` names one start of a program: by the
     // service's serial, the generation, and which of the two programs it is.
@@ -285,23 +344,19 @@ impl<R: Processes<Started = SystemProcess> + Files + Wait + Drop> ProcessBackend
         ensures same { OnErr result (self.new ≡ self.old) }
     {
         match order {
-            Order::Run(sid, generation, name, fd) => {
-                let Ok(launch) = self.launch_of_run(name, *fd) else {
-                    return Err(AskFault::NoMemory);
-                };
-                self.start(order, &Start::of_run(*sid, *generation), launch)
+            Order::Run(sid, generation, name, _) => {
+                self.start(order, name, &Start::of_run(*sid, *generation))
             }
-            Order::Finish(sid, generation, name, code, signal) => {
-                let Ok(launch) = self.launch_of_finish(name, *code, *signal) else {
-                    return Err(AskFault::NoMemory);
-                };
-                self.start(order, &Start::of_finish(*sid, *generation), launch)
+            Order::Finish(sid, generation, name, ..) => {
+                self.start(order, name, &Start::of_finish(*sid, *generation))
             }
             Order::Signal(sid, generation, signal) => {
                 self.signal(order, &Start::of_run(*sid, *generation), *signal)
             }
             Order::KillFinish(sid, generation) => {
-                self.signal(order, &Start::of_finish(*sid, *generation), SIGKILL)
+                let start = Start::of_finish(*sid, *generation);
+                self.end_trial(&start);
+                self.signal(order, &start, SIGKILL)
             }
         }
     }
@@ -336,7 +391,8 @@ impl<R: Processes<Started = SystemProcess> + Files + Wait + Drop> ProcessBackend
     }
 }
 
-impl<R: Processes<Started = SystemProcess> + Files + Wait + Drop> Backend for ProcessBackend<R> {
+impl<R: Processes<Started = SystemProcess> + Files<File = File> + Wait + Clock + Drop> Backend
+    for ProcessBackend<R> {
     ghost asked = { λ b. b.asked };
 
     ghost given = { λ b. b.given };
@@ -358,5 +414,34 @@ impl<R: Processes<Started = SystemProcess> + Files + Wait + Drop> Backend for Pr
     fn report(&mut self) -> Option<Report> {
         let report = self.next_report()?;
         self.roll.pass(report)
+    }
+}
+
+impl<R: Processes<Started = SystemProcess> + Files<File = File> + Wait + Clock + Drop> LaneWorker
+    for ProcessBackend<R> {
+    fn try_again(&mut self) -> Option<u64> {
+        if self.trials.is_empty() {
+            return None;
+        }
+        let now = millis_of(&self.rt);
+        self.go_over_all(&None, now);
+        self.next_try(now)
+    }
+
+    fn end_starts(&mut self, unwanted: Unwanted) {
+        self.go_over_all(&Some(unwanted), 0);
+    }
+}
+
+// Starts the program of the launch, if there is one.
+fn spawn<R: Processes<Started = SystemProcess> + Files<File = File>>(
+    rt: &R,
+    alloc: Global,
+    launch: Option<Launch>,
+) -> Result<(Child<SystemProcess>, Option<Pipe>), StartFault> {
+    match launch {
+        Some(mut launch) => launch.spawn(rt, alloc),
+        // No other order is tried.
+        None => Err(StartFault::Lasting),
     }
 }

@@ -5,6 +5,7 @@ ghost use Rattle.child_runner.specs.Roll.{with_asked};
 use crate::bell::Bell;
 use crate::link_queue::LinkQueue;
 use crate::roll::Roll;
+use crate::trials::Unwanted;
 use order_lanes::{AskFault, Report};
 use s6_events::Order;
 use std::alloc::Global;
@@ -17,12 +18,18 @@ pub const ORDER_LIMIT: usize = 1_024;
 /// The most reports that may be on their way back.
 pub const REPORT_LIMIT: usize = 64;
 
+/// How many words that starts are wanted no more may be on their way.
+const UNWANTED_LIMIT: usize = 64;
+
 /// The orders on their way to the thread of a lane, and the reports on their way back, each in order. `bell` wakes that thread, and `is_over`
 /// says that it is to end. The thread outlives the runs of a tree, and so does the link. Memory is taken as orders and reports come.
 #[derive(Drop)]
 pub struct LaneLink {
     orders: Mutex<LinkQueue<Order>>,
     reports: Mutex<LinkQueue<Report>>,
+    // Whether the thread tries starts again, and whose starts are wanted no more.
+    is_trying: Mutex<bool>,
+    unwanted: Mutex<LinkQueue<Unwanted>>,
     is_over: Mutex<bool>,
     bell: Arc<Bell, Global>,
 }
@@ -52,6 +59,10 @@ impl LaneLink {
         LaneLink {
             orders: Mutex::new(LinkQueue::new(alloc, ORDER_LIMIT)),
             reports: Mutex::new(LinkQueue::new(alloc, REPORT_LIMIT)),
+            // Whether the lane's thread tries starts again.
+            is_trying: Mutex::new(false),
+            // Whose starts are wanted no more.
+            unwanted: Mutex::new(LinkQueue::new(alloc, UNWANTED_LIMIT)),
             // Whether the lane's thread is to end.
             is_over: Mutex::new(false),
             bell,
@@ -62,6 +73,30 @@ impl LaneLink {
     pub fn end<R: Wait>(&self, rt: &R) {
         *self.is_over.lock(rt) = true;
         self.bell.ring(rt);
+    }
+
+    /// Says that starts are wanted no more: those that the lane's thread tries again end, and are reported as failed. Where 64 such words are on
+    /// their way, or memory is refused, they go on until they are given up.
+    pub fn end_starts<R: Wait>(&self, rt: &R, unwanted: Unwanted) {
+        if !*self.is_trying.lock(rt) {
+            return;
+        }
+        let mut words = self.unwanted.lock(rt);
+        if words.make_room().is_ok() {
+            words.add(unwanted);
+        }
+        drop(words);
+        self.bell.ring(rt);
+    }
+
+    /// Notes whether the lane's thread tries starts again.
+    pub(crate) fn note_trying<R: Wait>(&self, rt: &R, is_trying: bool) {
+        *self.is_trying.lock(rt) = is_trying;
+    }
+
+    /// Takes the next word that starts are wanted no more; None where there is none.
+    pub(crate) fn take_unwanted<R: Wait>(&self, rt: &R) -> Option<Unwanted> {
+        self.unwanted.lock(rt).take()
     }
 
     /// Whether the lane's thread is to end.

@@ -3,10 +3,25 @@ ghost use Rattle.std.specs.Prelude.{◌≡◌, ◌++◌, ◌∷◌, [], IfSome, 
 
 use crate::bell::Bell;
 use crate::lane_link::LaneLink;
+use crate::trials::Unwanted;
 use order_lanes::{Backend, Report};
 use s6_events::Order;
 use std::sync::Wait;
 use std::time::{Clock, Duration};
+
+/// What carries out the orders of a lane in the lane's thread. It tries a start again that fails for a fault of the moment, as where the file is
+/// being written, and takes further orders meanwhile.
+pub trait LaneWorker: Backend {
+    /// Tries again each start whose time has come. Returns after how many milliseconds the next one comes; None where none is left to be tried.
+    fn try_again(&mut self) -> Option<u64>
+        ensures asked { Self.asked self.new ≡ Self.asked self.old }
+        ensures given { Self.given self.new ≡ Self.given self.old };
+
+    /// Gives up the starts that are tried again and wanted no more: they are reported as failed.
+    fn end_starts(&mut self, unwanted: Unwanted)
+        ensures asked { Self.asked self.new ≡ Self.asked self.old }
+        ensures given { Self.given self.new ≡ Self.given self.old };
+}
 
 /// The most orders that are asked before reports are looked for.
 const ORDERS: usize = 16;
@@ -33,10 +48,11 @@ enum Carrying {
 }
 
 /// Serves a lane until the link is ended: asks `backend` the orders that a `LinkedBackend` sends, in order, and sends its reports back. An
-/// order that is refused is held, and asked again after at most 20 ms, or when the bell rings; reports go on meanwhile. It rings `driver`,
+/// order that is refused is held, and asked again after at most 20 ms, or when the bell rings; reports go on meanwhile. Starts that failed for a fault
+/// of the moment are tried again when their time has come. It rings `driver`,
 /// the bell of the driver, which is the thread that drives the tree's runs, when it has sent a report back, and when there is a place for
 /// orders where there was none. It waits on the link's bell alone.
-pub fn serve_lane<B: Backend, R: Wait + Clock>(
+pub fn serve_lane<B: LaneWorker, R: Wait + Clock>(
     rt: &R,
     link: &LaneLink,
     driver: &Bell,
@@ -52,15 +68,34 @@ pub fn serve_lane<B: Backend, R: Wait + Clock>(
             break;
         }
         let carrying = carry_some(rt, link, driver, backend, &mut held.order);
+        let next_try = try_starts(rt, link, backend);
         // Whether a report is kept, since there was no place for it.
         let are_kept = give_reports(rt, link, driver, backend, &mut held.report);
         match carrying {
             Carrying::More => {}
-            Carrying::Idle if !are_kept => link.wait_for_work(rt, None),
+            Carrying::Idle if !are_kept => {
+                link.wait_for_work(rt, next_try.map(Duration::from_millis));
+            }
             // An order was refused or a report is kept: it is tried again after a while.
             _ => link.wait_for_work(rt, Some(Duration::from_millis(RETRY))),
         }
     }
+    // So no child is left that never was.
+    backend.end_starts(Unwanted::All);
+}
+
+// Gives up the starts that are wanted no more, and tries those again whose time has come. Returns after how many milliseconds the next one comes;
+// None where none is left.
+fn try_starts<B: LaneWorker, R: Wait>(rt: &R, link: &LaneLink, backend: &mut B) -> Option<u64> {
+    for _ in 0..ORDERS {
+        let Some(unwanted) = link.take_unwanted(rt) else {
+            break;
+        };
+        backend.end_starts(unwanted);
+    }
+    let next_try = backend.try_again();
+    link.note_trying(rt, next_try.is_some());
+    next_try
 }
 
 // Asks the backend at most 16 orders, first the one that is held.

@@ -39,7 +39,7 @@ impl<R: Wait + Drop> LinkedBackend<R> {
             rt,
             link: Arc::try_clone(link)?,
             // Which starts were ordered and may still be reported on.
-            roll: Roll::new(alloc),
+            roll: Roll::new(alloc)?,
         })
     }
 }

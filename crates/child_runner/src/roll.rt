@@ -1,6 +1,6 @@
 //! A backend's roll: which of the starts that it was asked have not ended; and, for contracts alone, all that it was asked and gave.
 ghost use Rattle.std.specs.Prelude.{◌≡◌, ◌<◌, ◌++◌, ◌∷◌, [], List, length, IsTrue, Some, slice_get};
-ghost use Rattle.std.specs.Prelude.{OnOk, OnErr, IfSome, IfNone, remove, if◌then◌else◌};
+ghost use Rattle.std.specs.Prelude.{OnOk, OnErr, IfOk, IfSome, IfNone, remove, if◌then◌else◌};
 ghost use Rattle.std.specs.List.{All};
 ghost use Rattle.child_runner.specs.Roll.{WasAsked, is_last, orders_in, reports_in, with_asked, Passes};
 ghost use Rattle.s6_events.specs.declared.order.Order.{Order as Asked};
@@ -13,8 +13,11 @@ use std::alloc::Global;
 use std::marker::Model;
 use std::snapshot::Snapshot;
 
-/// What was asked and what was given, for contracts alone: these two lists take no memory. `living` are the starts that were asked and haven't
-/// ended; only a report of one of them is let through.
+/// For how many orders, and for how many reports, a roll has room from the start: more than ever come. They have no bytes.
+const ROOM: usize = 0x4000_0000_0000_0000;
+
+/// What was asked and what was given, for contracts alone: these two lists take no memory once they are made. `living` are the starts that were
+/// asked and haven't ended; only a report of one of them is let through.
 #[derive(Drop)]
 pub(crate) struct Roll {
     living: Vec<Order>,
@@ -93,17 +96,17 @@ fn end_last(living: &mut Vec<Order>, place: usize, report: &Report)
 }
 
 impl Roll {
-    /// Nothing was asked or given yet.
-    pub fn new(alloc: Global) -> Roll
-        ensures { result ≡ record { asked = []; given = []; living = [] } }
+    /// Nothing was asked or given yet. `NoMemory` where memory is refused.
+    pub fn new(alloc: Global) -> Result<Roll, NoMemory>
+        ensures { IfOk result (λ r. r ≡ record { asked = []; given = []; living = [] }) }
     {
-        Roll {
+        Ok(Roll {
             // The starts that were asked and haven't ended.
             living: Vec::new(alloc),
-            // For contracts alone.
-            asked: Vec::new(alloc),
-            given: Vec::new(alloc),
-        }
+            // For contracts alone. A list that grows takes a block also for what has no bytes, so these have all their room from the start.
+            asked: Vec::with_capacity(alloc, ROOM)?,
+            given: Vec::with_capacity(alloc, ROOM)?,
+        })
     }
 
     /// An order was asked that starts nothing.
@@ -153,7 +156,7 @@ impl Roll {
     {
         // A report of no such start is dropped.
         let place = place_of_start(self.living.as_slice(), &report)?;
-        // The list of what was given takes no memory, so this is not refused.
+        // The list of what was given has room, so this is not refused.
         let Ok(()) = add_given(&mut self.given, &report) else {
             return None;
         };

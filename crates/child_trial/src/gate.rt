@@ -1,5 +1,5 @@
 //! The lane that a thread serves, and that takes no order while its gate is shut.
-use child_runner::{Bell, LaneLink, serve_lane};
+use child_runner::{Bell, LaneLink, LaneWorker, Unwanted, serve_lane};
 use order_lanes::{AskFault, Backend, Report};
 use s6_events::Order;
 use std::alloc::Global;
@@ -33,6 +33,16 @@ impl<B: Backend> Backend for Gated<B> {
     }
 }
 
+impl<B: LaneWorker> LaneWorker for Gated<B> {
+    fn try_again(&mut self) -> Option<u64> {
+        self.backend.try_again()
+    }
+
+    fn end_starts(&mut self, unwanted: Unwanted) {
+        self.backend.end_starts(unwanted)
+    }
+}
+
 /// What ties the lane to its thread.
 #[derive(Drop)]
 pub struct Wires {
@@ -44,7 +54,7 @@ pub struct Wires {
     pub is_shut: Arc<AtomicBool, Global>,
 }
 
-fn serve_gated<B: Backend + Drop, R: Wait + Clock + Drop>(rt: R, wires: Wires, backend: B) {
+fn serve_gated<B: LaneWorker + Drop, R: Wait + Clock + Drop>(rt: R, wires: Wires, backend: B) {
     let Wires {
         link,
         driver,
@@ -56,7 +66,7 @@ fn serve_gated<B: Backend + Drop, R: Wait + Clock + Drop>(rt: R, wires: Wires, b
 
 /// Starts the thread that serves the lane, until its link ends.
 pub fn start_lane<
-    B: Backend + Send + Drop + 'static,
+    B: LaneWorker + Send + Drop + 'static,
     R: Threads + Wait + Clock + Copy + Send + Sync + Drop + 'static,
 >(rt: R, wires: Wires, backend: B) -> io::Result<JoinHandle<()>> {
     Builder::new().spawn(&rt, move || serve_gated(rt, wires, backend))

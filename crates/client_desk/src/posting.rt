@@ -158,6 +158,15 @@ impl ClientDesk {
         }
     }
 
+    /// Refuses those that wait for the run to be recorded, since its file was removed. Wakes all to which something was posted.
+    pub fn refuse_record<R: Wait>(&mut self, context: &Context<'_, R>) {
+        let recorders = mem::replace(&mut self.recorders, ArrayVec::new());
+        for seat in &recorders {
+            self.refuse_errand(context, *seat, OwnAnswer::Record);
+        }
+        self.wake_all(context);
+    }
+
     /// Tells the connections that wait for it that the run is recorded, and how many steps the record has now. Wakes all to which something
     /// was posted.
     pub fn tell_recorded<R: Wait>(&mut self, context: &Context<'_, R>, steps: u64) {

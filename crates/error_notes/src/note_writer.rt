@@ -5,7 +5,7 @@ use crate::note_list::NOTES_LIMIT;
 use crate::notes::Notes;
 use log::kv::Source;
 use log::span::Spans;
-use log::{Line, Log, Metadata, Record};
+use log::{Log, Metadata, Record};
 use std::fmt::Display;
 use std::io::{self, Write};
 use std::sync::Wait;
@@ -91,8 +91,8 @@ impl<'a, R: Wait> Log for NoteWriter<'a, R> {
     // Posts a record of the log as a note of one line. Where memory for the line is refused, the note counts as lost.
     fn log<D: Display, K: Source, S: Spans>(&self, record: &Record<'_, D, K, S>) {
         let alloc = self.notes.alloc;
-        // The record as one line.
-        match format!(in alloc; "{}\n", Line::new(record)) {
+        // What it says, without the module that says it: the line is for whoever operates the tree.
+        match format!(in alloc; "{}\n", record.args()) {
             Ok(line) => self.notes.post(self.rt, line.as_bytes()),
             Err(_) => self.notes.lose(self.rt),
         }

@@ -1,4 +1,4 @@
 pub mod Endings
 pub mod Line
 pub mod Outbox
-pub mod Silence
+pub mod MakingWay

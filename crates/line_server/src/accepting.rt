@@ -2,7 +2,7 @@
 use crate::conversing::{converse_at, read_last, write_last};
 use crate::mailbox::Mailbox;
 use crate::server::{Answers, Server};
-use std::io::Write;
+use std::io::{self, Write};
 use std::os::unix::net::UnixStream;
 use std::sync::{Arc, Wait};
 use std::thread::{self, Builder, Scope, Threads};
@@ -11,15 +11,26 @@ use std::time::Clock;
 /// The stack of a thread that reads or writes one connection, in bytes.
 pub const STACK_SIZE: usize = 256 * 1024;
 
-/// Accepts and serves connections until `Server::end` is called. When it returns, all of its threads have ended.
-pub fn serve<W: Answers + Sync, R: Threads + Wait + Clock + Sync>(rt: &R, server: &Server<W>) {
+/// What the system answers where it has no descriptor left, for this process or for any.
+const EMFILE: i32 = 24;
+
+const ENFILE: i32 = 23;
+
+/// Accepts and serves connections until `Server::end` is called. When it returns, all of its threads have ended. Where a connection can't be
+/// accepted for want of a descriptor, `want_line` is written on `errors`, once.
+pub fn serve<W: Answers + Sync, R: Threads + Wait + Clock + Sync, E: Write>(
+    rt: &R,
+    server: &Server<W>,
+    errors: &mut E,
+    want_line: &[u8],
+) {
     thread::scope(thread::scope_env(), rt, |scope| {
         if !start_last(scope, rt, server) {
             // Without both threads, nobody gets the last seat.
             server.last_seat_reader.end(rt);
         }
         // This takes as long as the server lives.
-        accept_all(scope, rt, server);
+        accept_all(scope, rt, server, errors, want_line);
     });
 }
 
@@ -45,60 +56,80 @@ fn start_last<'s, E, W: Answers + Sync, R: Threads + Wait + Clock + Sync>(
     writes && reads
 }
 
-// Accepts connections until the server ends.
-fn accept_all<'s, E, W: Answers + Sync, R: Threads + Wait + Clock + Sync>(
+// Accepts connections until the server ends. The first time that the system has no descriptor for one, `want_line` is written on `errors`.
+fn accept_all<'s, E, W: Answers + Sync, R: Threads + Wait + Clock + Sync, O: Write>(
     scope: &Scope<'s, E>,
     rt: &'s R,
     server: &'s Server<W>,
+    errors: &mut O,
+    want_line: &[u8],
 ) {
-    // The last answer of `wait_to_accept`: how often a seat had become free by then.
-    let mut freed = 0;
+    // The last answer of `wait_to_accept`.
+    let mut changes = 0;
+    let mut is_told = false;
     for stream in server.listener.incoming() {
         match stream {
             Ok(stream) => {
-                seat_one(scope, rt, server, stream);
-                // The spare descriptor may have been given up for this connection.
-                server.keep_spare(rt);
+                // The spare descriptor may have been given up for this connection, and may be had again or not.
+                let has_spare = server.keep_spare(rt);
+                seat_one(scope, rt, server, stream, has_spare);
             }
             Err(error) => {
-                let Some(now) = server.wait_to_accept(rt, &error, freed) else {
+                if !is_told && is_want_of_descriptors(&error) {
+                    is_told = true;
+                    let _ = errors.write_all(want_line);
+                }
+                let Some(now) = server.wait_to_accept(rt, &error, changes) else {
                     break;
                 };
-                freed = now;
+                changes = now;
             }
         }
     }
 }
 
-// Gives a connection a seat, if one is free or will be soon; else sends it `busy` and closes it.
+// Whether the system has no descriptor left.
+fn is_want_of_descriptors(error: &io::Error) -> bool {
+    matches!(error.raw_os_error(), Some(EMFILE | ENFILE))
+}
+
+// Gives a connection a seat, if one is free or a connection makes way for it; else sends it `busy` and closes it. Where no spare descriptor is left
+// it gets the last seat or none: so the next one can come once it has its answers.
 fn seat_one<'s, E, W: Answers + Sync, R: Threads + Wait + Clock + Sync>(
     scope: &Scope<'s, E>,
     rt: &'s R,
     server: &'s Server<W>,
     stream: UnixStream,
+    has_spare: bool,
 ) {
     let Ok(mailbox) = Arc::new(server.alloc, Mailbox::new(server.alloc, stream)) else {
         // Without memory for its mailbox, the connection is closed without a word.
         return;
     };
-    if is_seated(scope, rt, server, &mailbox) {
-        return;
+    let mut knock = server.knock(rt, !has_spare);
+    for _ in rt.forever() {
+        if is_seated(scope, rt, server, &mailbox, has_spare) {
+            return;
+        }
+        if !server.make_way(rt, &mut knock) {
+            break;
+        }
     }
-    // Ends a connection that has been silent for long, if there is one, and waits a little for its seat.
-    server.make_way(rt);
-    if !is_seated(scope, rt, server, &mailbox) {
-        let _ = mailbox.stream().write_all(b"busy\n");
-    }
+    let _ = mailbox.stream().write_all(b"busy\n");
 }
 
-// Gives a connection a seat and a thread that reads it; where one of them can't be had, the last seat, whose threads run already. Returns whether
-// it has a seat.
+// Gives a connection a seat and a thread that reads it; where one of them or a spare descriptor can't be had, the last seat, whose threads run
+// already. Returns whether it has a seat.
 fn is_seated<'s, E, W: Answers + Sync, R: Threads + Wait + Clock + Sync>(
     scope: &Scope<'s, E>,
     rt: &'s R,
     server: &'s Server<W>,
     mailbox: &Arc<Mailbox>,
+    has_spare: bool,
 ) -> bool {
+    if !has_spare {
+        return server.take_last_seat(rt, mailbox);
+    }
     if let Some(seat) = server.take_seat(rt, mailbox) {
         if start_reader(scope, rt, server, seat) {
             return true;

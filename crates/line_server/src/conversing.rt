@@ -2,9 +2,9 @@
 use crate::accepting::STACK_SIZE;
 use crate::line_buffer::{LineBuffer, LineStatus};
 use crate::mailbox::Mailbox;
+use crate::making_way::SeatUse;
 use crate::seats::LAST_SEAT;
 use crate::server::{Answers, Next, Server, millis_of};
-use crate::silence::SeatUse;
 use std::alloc::Global;
 use std::io::{ErrorKind, Read, Write};
 use std::os::unix::net::UnixStream;
@@ -53,7 +53,7 @@ fn is_conversed<W: Answers + Sync, R: Threads + Wait + Clock + Sync>(
     mailbox: &Mailbox,
 ) -> bool {
     let is_written = thread::scope(thread::scope_env(), rt, |scope| {
-        let is_written = start_writer(scope, rt, server.alloc, mailbox);
+        let is_written = start_writer(scope, rt, server, seat, mailbox);
         if is_written {
             read_all(rt, server, seat, mailbox);
             // Nothing more is posted, so the other thread ends once all is written. The scope waits for it.
@@ -69,15 +69,16 @@ fn is_conversed<W: Answers + Sync, R: Threads + Wait + Clock + Sync>(
 }
 
 // Starts the thread that writes a connection. Returns whether it runs.
-fn start_writer<'s, E, R: Threads + Wait + Sync>(
+fn start_writer<'s, E, W: Answers + Sync, R: Threads + Wait + Clock + Sync>(
     scope: &Scope<'s, E>,
     rt: &'s R,
-    alloc: Global,
+    server: &'s Server<W>,
+    seat: usize,
     mailbox: &'s Mailbox,
 ) -> bool {
     Builder::new()
         .stack_size(STACK_SIZE)
-        .spawn_scoped(scope, move || write_all(rt, alloc, mailbox))
+        .spawn_scoped(scope, move || write_all(rt, server, seat, mailbox))
         .is_ok()
 }
 
@@ -114,21 +115,26 @@ fn converse_last<W: Answers, R: Wait + Clock>(rt: &R, server: &Server<W>, mailbo
 }
 
 /// Writes what is posted to the connections of the last seat, until the server ends.
-pub fn write_last<W: Answers, R: Wait>(rt: &R, server: &Server<W>) {
+pub fn write_last<W: Answers, R: Wait + Clock>(rt: &R, server: &Server<W>) {
     for _ in rt.forever() {
         let Some(mailbox) = server.last_seat_writer.take(rt) else {
             break;
         };
-        write_all(rt, server.alloc, &mailbox);
+        write_all(rt, server, LAST_SEAT, &mailbox);
         // This handle is gone before the reading thread goes on, so that the connection is closed with its seat.
         drop(mailbox);
         server.last_seat_writer.finish(rt);
     }
 }
 
-// Writes what is posted, until nothing more will be posted or the connection takes no more.
-fn write_all<R: Wait>(rt: &R, alloc: Global, mailbox: &Mailbox) {
-    let mut text = Vec::new(alloc);
+// Writes what is posted to the connection of this seat, until nothing more will be posted or the connection takes no more.
+fn write_all<W: Answers, R: Wait + Clock>(
+    rt: &R,
+    server: &Server<W>,
+    seat: usize,
+    mailbox: &Mailbox,
+) {
+    let mut text = Vec::new(server.alloc);
     for _ in rt.forever() {
         // Moves all that was posted into `text`.
         if !mailbox.wait_for_text(rt, &mut text) {
@@ -139,6 +145,7 @@ fn write_all<R: Wait>(rt: &R, alloc: Global, mailbox: &Mailbox) {
             mailbox.end(rt);
             break;
         }
+        server.note_written(rt, seat);
     }
 }
 
@@ -174,8 +181,8 @@ fn read_some(mut stream: &UnixStream, buffer: &mut LineBuffer<Global>) -> bool {
     }
 }
 
-// Answers each whole line that has come. The connection counts as needed until all are answered, and as silent from then on: a silent one may lose
-// its seat to a new one.
+// Answers each whole line that has come. The connection counts as needed until all are answered, and as idle from then on: an idle one may have to
+// make way for a new one.
 fn answer_lines<W: Answers, R: Wait + Clock>(
     rt: &R,
     server: &Server<W>,
@@ -211,7 +218,7 @@ fn answer_lines<W: Answers, R: Wait + Clock>(
     if has_asked {
         // Waits until all of them are answered.
         server.answers.settle(rt, seat);
-        server.note(rt, seat, SeatUse::SilentSince(millis_of(rt)));
+        server.note(rt, seat, SeatUse::IdleSince(millis_of(rt)));
     }
     next
 }

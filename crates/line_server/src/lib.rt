@@ -6,16 +6,16 @@ mod accepting;
 mod conversing;
 mod line_buffer;
 mod mailbox;
+mod making_way;
 mod outbox;
 mod seats;
 mod server;
-mod silence;
 mod work_desk;
 
 pub use accepting::serve;
 pub use line_buffer::{LINE_LIMIT, LineBuffer, LineStatus};
 pub use mailbox::Mailbox;
+pub use making_way::{FIRST_TIME, LAST_TIME, Occupant, SeatUse};
 pub use outbox::{OUTBOX_LIMIT, Outbox, PostFault};
 pub use seats::{LAST_SEAT, SEAT_COUNT, Seats};
 pub use server::{Answers, Next, Server};
-pub use silence::{SILENCE_LIMIT, SeatUse};

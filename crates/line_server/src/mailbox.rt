@@ -62,6 +62,11 @@ impl Mailbox {
         self.changed.notify_all();
     }
 
+    /// Dismisses the connection: what it has sent is still read, and then no more; what it is sent is still written.
+    pub fn dismiss(&self) {
+        let _ = self.stream.shutdown(Shutdown::Read);
+    }
+
     /// Ends the connection at once, in both directions: calls that read or write it return.
     pub fn end<R: Wait>(&self, rt: &R) {
         self.close(rt);

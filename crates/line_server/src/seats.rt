@@ -1,6 +1,6 @@
 //! Who is connected: a connection has one of 11 seats, known by its number, from 0. A sitting is a connection on its seat, with its mailbox.
 use crate::mailbox::Mailbox;
-use crate::silence::{SeatUse, first_silent};
+use crate::making_way::{LAST_TIME, Occupant, SeatUse, first_chance, longest_idle};
 use std::alloc::{AllocError, Global};
 use std::sync::{Arc, Wait};
 
@@ -10,19 +10,27 @@ pub const SEAT_COUNT: usize = 11;
 /// The seat whose threads run from the start, so that a connection can come even where the system has no thread for it.
 pub const LAST_SEAT: usize = SEAT_COUNT - 1;
 
+/// How long a knock first waits for a connection that is leaving anyway, in milliseconds, before another one makes way.
+const LEAVING_WAIT: u64 = 20;
+
+/// How long a knock waits until it looks again, in milliseconds, where nothing tells when a seat may be free.
+const LOOK_WAIT: u64 = 100;
+
 /// A connection on its seat.
 #[derive(Drop)]
 struct Sitting {
     mailbox: Arc<Mailbox>,
-    doing: SeatUse,
+    occupant: Occupant,
 }
 
-// What the connection of a seat does. One that is kept though it says nothing (`Answers::keeps`) counts as needed, and so does a free seat:
-// neither gives way.
-fn use_of(sitting: &Option<Sitting>, is_kept: bool) -> SeatUse {
+// The occupant of a seat. One that is needed (`needed`) makes no way, whatever it does, and neither does a free seat.
+fn occupant_of(sitting: &Option<Sitting>, is_needed: bool) -> Occupant {
     match sitting {
-        Some(sitting) if !is_kept => sitting.doing,
-        _ => SeatUse::Needed,
+        Some(sitting) if !is_needed => sitting.occupant,
+        _ => Occupant {
+            came: 0,
+            doing: SeatUse::Needed,
+        },
     }
 }
 
@@ -30,8 +38,10 @@ fn use_of(sitting: &Option<Sitting>, is_kept: bool) -> SeatUse {
 #[derive(Drop)]
 pub struct Seats {
     sittings: Vec<Option<Sitting>>,
-    // How often a seat became free, modulo 2^64.
-    freed: u64,
+    // How often a seat became free, or a connection idle while another one knocked; modulo 2^64.
+    changes: u64,
+    // Whether a connection has knocked, and waits for a seat.
+    is_knocked: bool,
     is_ending: bool,
 }
 
@@ -44,15 +54,17 @@ impl Seats {
         }
         Ok(Seats {
             sittings,
-            // How often a seat became free.
-            freed: 0,
+            // How often a seat became free, or a connection idle while another one knocked.
+            changes: 0,
+            // Whether a connection has knocked, and waits for a seat.
+            is_knocked: false,
             // Whether the server is ending, so that no connection is taken any more.
             is_ending: false,
         })
     }
 
-    /// Gives the connection the first free seat, but not the last one; it counts as silent since the moment `now`, in milliseconds. None
-    /// where none of these is free, or the server is ending.
+    /// Gives the connection, which came at the moment `now`, in milliseconds, the first free seat, but not the last one. None where none of these
+    /// is free, or the server is ending.
     pub fn take(&mut self, mailbox: Arc<Mailbox>, now: u64) -> Option<usize> {
         let sittings = self.sittings.as_slice();
         let seat = sittings.iter().position(|taken| taken.is_none())?;
@@ -68,57 +80,115 @@ impl Seats {
         self.take_at(LAST_SEAT, mailbox, now)
     }
 
-    // Gives the connection this seat; it counts as silent since the moment `now`, in milliseconds. False where the seat is not free, or the
-    // server is ending.
+    // Gives the connection, which came at the moment `now`, this seat. False where the seat is not free, or the server is ending.
     fn take_at(&mut self, seat: usize, mailbox: Arc<Mailbox>, now: u64) -> bool {
         if self.is_ending {
             return false;
         }
         match self.sittings.get_mut(seat) {
             Some(place) if place.is_none() => {
-                // It has said nothing yet.
-                let doing = SeatUse::SilentSince(now);
-                *place = Some(Sitting { mailbox, doing });
+                let occupant = Occupant {
+                    came: now,
+                    // It has asked nothing yet.
+                    doing: SeatUse::IdleSince(now),
+                };
+                *place = Some(Sitting { mailbox, occupant });
                 true
             }
             _ => false,
         }
     }
 
-    /// Notes what the connection on this seat does now.
-    pub fn note(&mut self, seat: usize, doing: SeatUse) {
-        if let Some(Some(sitting)) = self.sittings.get_mut(seat) {
-            sitting.doing = doing;
-        }
-    }
-
-    /// Ends the first connection that isn't kept and has been silent for two seconds or more at the moment `now`, in milliseconds: its seat
-    /// will be free.
-    pub fn end_silent<R: Wait>(&mut self, rt: &R, kept: &[bool; SEAT_COUNT], now: u64) {
-        // What the connection of each seat does.
-        let mut uses = [SeatUse::Needed; SEAT_COUNT];
-        let sittings = self.sittings.as_slice();
-        for ((place, sitting), is_kept) in uses.iter_mut().zip(sittings).zip(kept) {
-            *place = use_of(sitting, *is_kept);
-        }
-        let Some(seat) = first_silent(&uses, now) else {
-            return;
+    /// Notes what the connection on this seat does now. Returns whether a connection that has knocked is to look again, since this one is idle.
+    pub fn note(&mut self, seat: usize, doing: SeatUse) -> bool {
+        let Some(Some(sitting)) = self.sittings.get_mut(seat) else {
+            return false;
         };
+        sitting.occupant.doing = sitting.occupant.doing.noting(doing);
+        if !self.is_knocked || sitting.occupant.doing.idle_since().is_none() {
+            return false;
+        }
+        self.changes = self.changes.wrapping_add(1);
+        true
+    }
+
+    /// Notes that something was written to the connection on this seat at the moment `now`, in milliseconds: if it is idle, it is since then.
+    pub fn note_written(&mut self, seat: usize, now: u64) {
         if let Some(Some(sitting)) = self.sittings.get_mut(seat) {
-            // Its own thread frees the seat, once it sees the end.
-            sitting.doing = SeatUse::Leaving;
-            sitting.mailbox.end(rt);
+            if sitting.occupant.doing.idle_since().is_some() {
+                sitting.occupant.doing = SeatUse::IdleSince(now);
+            }
         }
     }
 
-    /// Whether no seat is free now, but one will be soon.
-    pub fn is_about_to_be_free(&self) -> bool {
+    /// Looks who makes way for a connection that has knocked, at the moment `now`, in milliseconds: the one that has been idle for the longest time,
+    /// of those that came 100 milliseconds ago or earlier. It is dismissed: no further line of it is read, and its seat is free once its answers
+    /// are written. Those of `needed` stay. At the first look of a knock nobody is dismissed if one is leaving anyway. Returns after how many
+    /// milliseconds it is time to look again.
+    pub fn make_way<R: Wait>(
+        &mut self,
+        rt: &R,
+        needed: &[bool; SEAT_COUNT],
+        now: u64,
+        is_first_look: bool,
+    ) -> u64 {
+        self.end_dismissed(rt, now);
+        if is_first_look && self.is_one_leaving() {
+            return LEAVING_WAIT;
+        }
+        let occupants = self.occupants(needed);
+        match longest_idle(&occupants, now) {
+            Some(seat) => {
+                self.dismiss(seat, now);
+                LOOK_WAIT
+            }
+            None => first_chance(&occupants, now).unwrap_or(LOOK_WAIT),
+        }
+    }
+
+    // The occupants of all seats; those of `needed` count as needed.
+    fn occupants(&self, needed: &[bool; SEAT_COUNT]) -> [Occupant; SEAT_COUNT] {
+        let mut occupants = [occupant_of(&None, false); SEAT_COUNT];
         let sittings = self.sittings.as_slice();
-        sittings.iter().all(|taken| taken.is_some())
-            && sittings
-                .iter()
-                .flatten()
-                .any(|sitting| sitting.doing == SeatUse::Leaving)
+        for ((place, sitting), is_needed) in occupants.iter_mut().zip(sittings).zip(needed) {
+            *place = occupant_of(sitting, *is_needed);
+        }
+        occupants
+    }
+
+    // Whether a connection has ended or was dismissed, and its seat will be free.
+    fn is_one_leaving(&self) -> bool {
+        self.sittings.as_slice().iter().flatten().any(|sitting| {
+            matches!(
+                sitting.occupant.doing,
+                SeatUse::Leaving | SeatUse::Dismissed(_) | SeatUse::LastAnswers
+            )
+        })
+    }
+
+    // Dismisses the connection of this seat. Its own thread frees the seat, once all that was posted to it is written.
+    fn dismiss(&mut self, seat: usize, now: u64) {
+        if let Some(Some(sitting)) = self.sittings.get_mut(seat) {
+            sitting.occupant.doing = SeatUse::Dismissed(now);
+            sitting.mailbox.dismiss();
+        }
+    }
+
+    // Ends each connection that was dismissed, and to which all was answered a second ago or earlier, and which has not read that.
+    fn end_dismissed<R: Wait>(&self, rt: &R, now: u64) {
+        for sitting in self.sittings.as_slice().iter().flatten() {
+            match sitting.occupant.doing {
+                SeatUse::Dismissed(moment) if now.saturating_sub(moment) >= LAST_TIME => {
+                    sitting.mailbox.end(rt);
+                }
+                _ => {}
+            }
+        }
+    }
+
+    /// Notes whether a connection has knocked, and waits for a seat.
+    pub fn note_knock(&mut self, is_knocked: bool) {
+        self.is_knocked = is_knocked;
     }
 
     /// The seat is free again.
@@ -127,12 +197,12 @@ impl Seats {
             *place = None;
         }
         // Whoever waits for a seat sees by the count that one became free.
-        self.freed = self.freed.wrapping_add(1);
+        self.changes = self.changes.wrapping_add(1);
     }
 
-    /// How often a seat became free, modulo 2^64.
-    pub fn freed(&self) -> u64 {
-        self.freed
+    /// How often a seat became free, or a connection idle while another one knocked; modulo 2^64.
+    pub fn changes(&self) -> u64 {
+        self.changes
     }
 
     /// The mailbox of the connection on this seat, if one is there.

@@ -1,7 +1,7 @@
 //! A server of lines: who is connected, and who answers. A connection has one of eleven seats, and a mailbox, where texts wait to be written to it.
 use crate::mailbox::Mailbox;
+use crate::making_way::SeatUse;
 use crate::seats::{LAST_SEAT, SEAT_COUNT, Seats};
-use crate::silence::SeatUse;
 use crate::work_desk::WorkDesk;
 use std::alloc::{AllocError, Global};
 use std::io::{self, ErrorKind};
@@ -15,8 +15,19 @@ use std::time::{Clock, Duration};
 /// connection ends before.
 const ACCEPT_WAIT: u64 = 100;
 
-/// How long a new connection waits at most for a seat that will be free, in milliseconds.
-const KNOCK_WAIT: u64 = 100;
+/// How long a new connection waits at most for a seat, in milliseconds. Within this time the first time of each connection that is there is over.
+const KNOCK_WAIT: u64 = 250;
+
+/// A connection that has knocked, since no seat was free for it.
+#[derive(Clone, Copy)]
+pub(crate) struct Knock {
+    // Until when it waits for a seat, in milliseconds of the system's clock.
+    until: u64,
+    // Whether it may have the last seat alone.
+    is_for_last: bool,
+    // Whether nobody has made way for it yet.
+    is_first_look: bool,
+}
 
 /// What happens to a connection after a line was answered.
 #[derive(Clone, Copy, Debug, PartialEq, Eq)]
@@ -41,7 +52,8 @@ pub trait Answers {
     /// and then the connection ends.
     fn refuse_long_line<R: Wait>(&self, rt: &R, seat: usize, mailbox: &Mailbox);
 
-    /// Whether the connection of this seat is kept though it says nothing, because something may still be told to it.
+    /// Whether the connection of this seat is kept though it says nothing, because something may still be told to it. It must not call the
+    /// server.
     fn keeps<R: Wait>(&self, rt: &R, seat: usize) -> bool;
 
     /// The connection of this seat has ended, and no line of it is being answered. The seat is free afterwards.
@@ -56,11 +68,12 @@ pub fn millis_of<R: Clock>(rt: &R) -> u64 {
     }
 }
 
-/// A server of lines, for at most 11 connections at one time. A further one is sent `busy` and a newline, and closed. But where one of the 11
-/// has said nothing for two seconds, and waits for nothing, that one is closed, and its seat goes to the new one.
+/// A server of lines, for at most 11 connections at one time. For a further one the connection makes way that asks nothing and waits for nothing, and
+/// has done so for the longest time; but none in its first 100 milliseconds. It is closed once its answers are written. Where none makes way within
+/// 250 milliseconds, the new one is sent `busy` and a newline, and closed.
 ///
 /// The threads of the last seat run from the start, and one descriptor is kept in reserve. So where the system has no thread or no
-/// descriptor for a connection, one can still come.
+/// descriptor for a connection, one can still come, on the last seat.
 #[derive(Drop)]
 pub struct Server<W: Answers> {
     pub(crate) alloc: Global,
@@ -119,8 +132,7 @@ impl<W: Answers> Server<W> {
         self.seats.lock(rt).mailbox(seat)
     }
 
-    // Gives a connection a seat, but not the last one; None where none of these is free, or memory for a handle is refused. It counts as silent
-    // from now on.
+    // Gives a connection a seat, but not the last one; None where none of these is free, or memory for a handle is refused.
     pub(crate) fn take_seat<R: Wait + Clock>(
         &self,
         rt: &R,
@@ -144,7 +156,6 @@ impl<W: Answers> Server<W> {
     ) -> Result<bool, AllocError> {
         // `own` is the handle of the seat, and `read` that of the thread that reads.
         let (own, read) = (mailbox.clone()?, mailbox.clone()?);
-        // The connection counts as silent from this moment on.
         if !self.seats.lock(rt).take_last(own, millis_of(rt)) {
             return Ok(false);
         }
@@ -155,29 +166,57 @@ impl<W: Answers> Server<W> {
         Ok(true)
     }
 
-    // Ends a connection that has been silent for two seconds, if there is one.
-    fn end_silent<R: Wait + Clock>(&self, rt: &R) {
-        // By seats: whether the connection is kept though it says nothing, because something may still be told to it.
-        let mut kept = [true; SEAT_COUNT];
-        for (seat, is_kept) in kept.iter_mut().enumerate() {
-            *is_kept = self.answers.keeps(rt, seat);
+    // A connection for which no seat is free: it waits for one, for 250 milliseconds. `is_for_last`: for the last one alone.
+    pub(crate) fn knock<R: Clock>(&self, rt: &R, is_for_last: bool) -> Knock {
+        Knock {
+            until: millis_of(rt).saturating_add(KNOCK_WAIT),
+            is_for_last,
+            is_first_look: true,
         }
-        self.seats.lock(rt).end_silent(rt, &kept, millis_of(rt));
     }
 
-    // Ends a connection that has been silent for two seconds, if there is one. Waits at most 100 milliseconds for a seat that will be free.
-    pub(crate) fn make_way<R: Wait + Clock>(&self, rt: &R) {
-        self.end_silent(rt);
-        let seats = self.seats.lock(rt);
-        let time = Duration::from_millis(KNOCK_WAIT);
-        let _seats = self.changed.wait_timeout_while(rt, seats, time, |seats| {
-            !seats.is_ending() && seats.is_about_to_be_free()
+    // By seats, whether the connection is not to make way: something may still be told to it, or another seat than the last one is of no use.
+    fn needed_seats<R: Wait>(&self, rt: &R, is_for_last: bool) -> [bool; SEAT_COUNT] {
+        let mut needed = [true; SEAT_COUNT];
+        for (seat, is_needed) in needed.iter_mut().enumerate() {
+            *is_needed = (is_for_last && seat != LAST_SEAT) || self.answers.keeps(rt, seat);
+        }
+        needed
+    }
+
+    // Has a connection make way for one that has knocked, and waits until it is worth to look again for a seat. False where the knock's time is over,
+    // or the server is ending.
+    pub(crate) fn make_way<R: Wait + Clock>(&self, rt: &R, knock: &mut Knock) -> bool {
+        let mut seats = self.seats.lock(rt);
+        let now = millis_of(rt);
+        let left = knock.until.saturating_sub(now);
+        if seats.is_ending() || left == 0 {
+            return false;
+        }
+        // Under the lock: what is needed or idle now stays so until one is dismissed.
+        let needed = self.needed_seats(rt, knock.is_for_last);
+        let wait = seats.make_way(rt, &needed, now, knock.is_first_look);
+        knock.is_first_look = false;
+        let changes = seats.changes();
+        seats.note_knock(true);
+        let time = Duration::from_millis(wait.min(left));
+        let (mut seats, _late) = self.changed.wait_timeout_while(rt, seats, time, |seats| {
+            !seats.is_ending() && seats.changes() == changes
         });
+        seats.note_knock(false);
+        true
     }
 
     // Notes what the connection on this seat does now.
     pub(crate) fn note<R: Wait>(&self, rt: &R, seat: usize, doing: SeatUse) {
-        self.seats.lock(rt).note(seat, doing);
+        if self.seats.lock(rt).note(seat, doing) {
+            self.changed.notify_all();
+        }
+    }
+
+    // Notes that something was written to the connection on this seat.
+    pub(crate) fn note_written<R: Wait + Clock>(&self, rt: &R, seat: usize) {
+        self.seats.lock(rt).note_written(seat, millis_of(rt));
     }
 
     // The seat is free again: those that wait for one look.
@@ -191,43 +230,46 @@ impl<W: Answers> Server<W> {
         self.spare.lock(rt).take().is_some()
     }
 
-    // Takes a spare descriptor again, if it was given up and the system has one. It is given up again where a connection can't be accepted for want
-    // of a descriptor.
-    pub(crate) fn keep_spare<R: Wait>(&self, rt: &R) {
+    // Takes a spare descriptor again, if it was given up and the system has one. Returns whether there is one: else the connection that was accepted
+    // last has the descriptor that was the spare one.
+    pub(crate) fn keep_spare<R: Wait>(&self, rt: &R) -> bool {
         let mut spare = self.spare.lock(rt);
         if spare.is_none() {
             *spare = self.listener.try_clone().ok();
         }
+        spare.is_some()
     }
 
     // Called after a connection could not be accepted. Where the system lacks something for it, it gives up the spare descriptor. Where
-    // there is none, it ends a connection that has been silent for two seconds, and waits at most 100 milliseconds for a seat that has
-    // become free since their count was `freed`. Returns the count then, or None where the server is ending.
+    // there is none, a connection makes way, and it waits at most 100 milliseconds for a seat that has become free since the count of changes was
+    // `changes`. Returns the count then, or None where the server is ending.
     pub(crate) fn wait_to_accept<R: Wait + Clock>(
         &self,
         rt: &R,
         error: &io::Error,
-        freed: u64,
+        changes: u64,
     ) -> Option<u64> {
+        let mut seats = self.seats.lock(rt);
         let millis = match error.kind() {
             // The system lacks nothing: the next connection is accepted at once.
             ErrorKind::ConnectionAborted | ErrorKind::Interrupted => 0,
             // A descriptor is free now, so it is tried again at once.
             _ if self.give_up_spare(rt) => 0,
             _ => {
-                self.end_silent(rt);
+                let needed = self.needed_seats(rt, false);
+                // As at the first look: where one is leaving anyway, its descriptor will do.
+                let _ = seats.make_way(rt, &needed, millis_of(rt), true);
                 ACCEPT_WAIT
             }
         };
-        let seats = self.seats.lock(rt);
         let time = Duration::from_millis(millis);
         let (seats, _late) = self.changed.wait_timeout_while(rt, seats, time, |seats| {
-            !seats.is_ending() && seats.freed() == freed
+            !seats.is_ending() && seats.changes() == changes
         });
         if seats.is_ending() {
             return None;
         }
-        Some(seats.freed())
+        Some(seats.changes())
     }
 
     /// Ends the server, from any thread: no connection is accepted any more, each one that is there ends, and `serve` returns.

@@ -7,6 +7,7 @@ ghost use Rattle.run_stories.specs.Scripts.{IsStory, StoryStops};
 ghost use Rattle.s6_replay.specs.declared.fault.ReplayFault.TheVariants.{Write};
 
 use crate::dated::Dated;
+use crate::line_counter::LineCounter;
 use run_stories::{draw_timeline, tell_story};
 use s6_replay::{Checked, Counts, ReplayFault, check, migrate, run};
 use std::alloc::{Allocator, Global};
@@ -99,17 +100,33 @@ pub fn record_replies<A: Allocator + Copy, R: Read + Drop, W: Write + Drop>(
     Ok(())
 }
 
+/// Why a script was not checked to its end: the fault, and how many of the lines that were read are those of whole steps.
+#[derive(Drop)]
+pub struct CheckFault {
+    pub fault: ReplayFault,
+    pub whole_lines: u64,
+}
+
 /// Reads the script of version 2 that the input gives, through a buffer of 8,192 bytes, and checks its replies. Memory and faults are as in
 /// `replay`.
 pub fn check_replies<A: Allocator + Copy, R: Read + Drop>(
     alloc: A,
     patterns: Global,
     input: R,
-) -> Result<Checked, ReplayFault> {
-    let Ok(mut reader) = BufReader::new(alloc, input) else {
-        return Err(ReplayFault::NoMemory);
+) -> Result<Checked, CheckFault> {
+    let Ok(mut reader) = BufReader::new(alloc, LineCounter::new(input)) else {
+        return Err(CheckFault {
+            fault: ReplayFault::NoMemory,
+            whole_lines: 0,
+        });
     };
-    check(alloc, patterns, &mut reader)
+    match check(alloc, patterns, &mut reader) {
+        Ok(checked) => Ok(checked),
+        Err(fault) => {
+            let whole_lines = reader.get_ref().whole_lines();
+            Err(CheckFault { fault, whole_lines })
+        }
+    }
 }
 
 // Tells the story of a script, and flushes the writer. Where the flush fails, the fault is `Write`, whatever else was wrong.

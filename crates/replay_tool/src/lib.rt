@@ -5,6 +5,7 @@ mod buffered;
 mod dated;
 mod fault_lines;
 mod help_texts;
+mod line_counter;
 mod tool;
 
 pub use buffered::replay;

@@ -1,5 +1,7 @@
 //! Finds out what the command line asks for, `replay` or a text of the program, and does it. The other tools are looked for before.
-use crate::buffered::{check_replies, dated_story, record_replies, replay, story, timeline};
+use crate::buffered::{
+    CheckFault, check_replies, dated_story, record_replies, replay, story, timeline,
+};
 use crate::fault_lines::{NO_TOOL, REPLAY_USAGE, SYSTEM_STATUS, USAGE_STATUS, replay_fault};
 use crate::help_texts::{HELP, REPLAY_HELP, VERSION};
 use jiff_fmt::temporal::parse_timestamp;
@@ -148,6 +150,19 @@ where
     replay_fault(&ReplayFault::Write, errors)
 }
 
+// Tells why a script was not checked to its end, and returns the exit status. Where it was cut off, a second line says how much of it is whole.
+fn tell_unchecked<E: Write>(unchecked: &CheckFault, errors: &mut E) -> u8 {
+    let status = replay_fault(&unchecked.fault, errors);
+    if unchecked.fault == ReplayFault::Truncated {
+        let lines = unchecked.whole_lines;
+        let _ = write!(
+            errors,
+            "replay: the first {lines} lines are whole; head -n {lines} keeps them\n"
+        );
+    }
+    status
+}
+
 // The exit status of a tool that only reads and writes. A line on `errors` tells its fault.
 fn ended<E: Write>(done: Result<(), ReplayFault>, errors: &mut E) -> u8 {
     match done {
@@ -188,7 +203,7 @@ pub fn run_tool<A: Allocator + Copy, R: Read + Drop, W: Write + Drop, E: Write>(
         Asked::Timeline => ended(timeline(alloc, patterns, input, output), errors),
         Asked::Check => match check_replies(alloc, patterns, input) {
             Ok(checked) => print_checked(output, errors, checked),
-            Err(fault) => replay_fault(&fault, errors),
+            Err(unchecked) => tell_unchecked(&unchecked, errors),
         },
         Asked::ReplayUsage => refuse(errors, REPLAY_USAGE),
         Asked::Unknown => refuse(errors, NO_TOOL),

@@ -1,22 +1,18 @@
 //! The file in which the runs of a tree are recorded, as one script with replies. A run is the tree's steps between two handovers.
 //! `recording.rt` of tree_driver says when a run is recorded.
+use crate::record_file::{RecordFile, RecordWriter, create_record};
 use channel_names::Channels;
 use office::Office;
 use order_lanes::{Backend, Lanes};
 use run_history::KnownHistory;
 use run_records::RunFault;
 use s6_events::NoMemory;
-use server_rules::FileIdentity;
 use status_board::Board;
 use std::alloc::Global;
-use std::fs::{self, File, OpenOptions, Permissions, TryLockError};
-use std::io::{self, BufWriter, ErrorKind, Write};
-use std::os::unix::fs::{OpenOptionsExt, PermissionsExt};
+use std::fs::File;
+use std::io::{self, BufWriter, Write};
 use std::rt::Files;
 use std::sync::Wait;
-
-/// The rights of a record: its owner's alone.
-const RECORD_MODE: u32 = 0o600;
 
 /// How much memory is set aside for writing a run, in bytes. It is meant for the text of its longest step, while that grows.
 const RESERVE: usize = 1_048_576;
@@ -45,7 +41,7 @@ pub struct Recorder<W> {
     reserve: Vec<u8>,
 }
 
-impl<W: Write + Drop> Recorder<W> {
+impl<W: RecordWriter + Drop> Recorder<W> {
     /// A recorder with this writer, to which nothing was written yet; without a writer it records nothing.
     pub fn new(alloc: Global, writer: Option<W>) -> Recorder<W> {
         Recorder {
@@ -65,6 +61,14 @@ impl<W: Write + Drop> Recorder<W> {
     /// Whether runs are recorded: only where there is a writer.
     pub fn is_there(&self) -> bool {
         self.writer.is_some()
+    }
+
+    /// Whether the file was removed in which runs are recorded, so that nobody could read it.
+    pub fn is_removed(&self) -> bool {
+        match &self.writer {
+            Some(writer) => writer.is_removed(),
+            None => false,
+        }
     }
 
     /// How many steps the record has.
@@ -153,52 +157,14 @@ impl<'a, W: Write> Write for RestWriter<'a, W> {
     }
 }
 
-/// A recorder of the file at this path; without a path it records nothing. The file is made, or made empty, with rights for its owner
-/// alone. It is an error where a link is at the path, or another file that isn't regular, or where another server records in the file; what
-/// is there is left as it is.
+/// A recorder of the file at this path, as `create_record` makes it; without a path it records nothing.
 pub fn create_recorder<R: Files<File = File>>(
     rt: &R,
     alloc: Global,
     path: Option<&str>,
-) -> io::Result<Recorder<BufWriter<File>>> {
-    let Some(path) = path else {
-        return Ok(Recorder::new(alloc, None));
-    };
-    let file = open_record(rt, path)?;
-    // Another server has the lock. A lock that fails otherwise, as on a file system that has none, is no error.
-    if let Err(TryLockError::WouldBlock) = file.try_lock() {
-        return Err(ErrorKind::WouldBlock.into());
+) -> io::Result<Recorder<BufWriter<RecordFile>>> {
+    match path {
+        Some(path) => Ok(Recorder::new(alloc, Some(create_record(rt, alloc, path)?))),
+        None => Ok(Recorder::new(alloc, None)),
     }
-    file.set_permissions(Permissions::from_mode(RECORD_MODE))?;
-    // An earlier record in the file is given up.
-    file.set_len(0)?;
-    let writer = BufWriter::new(alloc, file)?;
-    Ok(Recorder::new(alloc, Some(writer)))
-}
-
-// Makes the file at this path, or opens the one that is there. Only a regular file is opened: to open a pipe would wait for its reader.
-fn open_record<R: Files<File = File>>(rt: &R, path: &str) -> io::Result<File> {
-    let mut options = OpenOptions::new();
-    // With `create_new` the opening fails where a file is there: that one is opened by `open_standing`.
-    options.append(true).create_new(true).mode(RECORD_MODE);
-    match options.open(rt, path) {
-        Err(error) if error.kind() == ErrorKind::AlreadyExists => open_standing(rt, path),
-        made => made,
-    }
-}
-
-// Opens the regular file that is at this path. `InvalidInput` where the file is not regular, or is replaced meanwhile.
-fn open_standing<R: Files<File = File>>(rt: &R, path: &str) -> io::Result<File> {
-    // The look at the path doesn't follow a link, so a link is not regular here.
-    let found = fs::symlink_metadata(rt, path)?;
-    if !found.is_file() {
-        return Err(ErrorKind::InvalidInput.into());
-    }
-    let file = OpenOptions::new().append(true).open(rt, path)?;
-    let opened = file.metadata()?;
-    // The file was replaced between the look and the opening.
-    if !FileIdentity::of(&found).is_that_of(&FileIdentity::of(&opened)) {
-        return Err(ErrorKind::InvalidInput.into());
-    }
-    Ok(file)
 }

@@ -51,6 +51,7 @@ name_clues t = (clue.First wrong.NoName, clue.Nowhere)
 -- where to look for the wrong word, and where else
 abbrev pub clues_of : Tool → Misuse → Clue × Clue
 clues_of t misuse.Missing = (clue.Nowhere, clue.Nowhere)
+clues_of t misuse.Empty = (clue.Nowhere, clue.Nowhere)
 clues_of t misuse.Unknown = (clue.First (strange_of t), spare_of t)
 clues_of t misuse.TooMany = excess_of t
 clues_of t misuse.BadNumber = number_clues t
@@ -64,8 +65,8 @@ subject_clues tool.Svc = (clue.First wrong.Plain, clue.Nowhere)
 subject_clues tool.Svstat = (clue.AtIf 0 wrong.Plain, clue.AtIf 2 wrong.Plain)
 subject_clues tool.Svscanctl = (clue.Nowhere, clue.Nowhere)
 subject_clues tool.Record = (clue.Nowhere, clue.Nowhere)
-subject_clues tool.Svwait = (clue.Only wrong.Plain, clue.Nowhere)
-subject_clues tool.Svlisten = (clue.Only wrong.Plain, clue.Nowhere)
+subject_clues tool.Svwait = (clue.Only wrong.Plain, clue.Only wrong.PlainNoNumber)
+subject_clues tool.Svlisten = (clue.Only wrong.Plain, clue.Only wrong.PlainNoNumber)
 subject_clues tool.List = (clue.Only wrong.Plain, clue.Nowhere)
 subject_clues tool.Follow = (clue.Only wrong.Plain, clue.Nowhere)
 subject_clues t = (clue.At 0, clue.Nowhere)

@@ -37,6 +37,16 @@ is_busy fault.Busy = true
 is_busy (fault.Refused reason) = bytes_eq reason (codes "Busy")
 is_busy f = false
 
+-- the same may be asked again: the server had no room, or the connection ended before the answer to a request that may come twice
+abbrev pub may_be_retried : ToolFault → Bool
+may_be_retried fault.Ended = true
+may_be_retried f = is_busy f
+
+-- what is told of the end of a connection before the answer, where the request may not come twice
+abbrev pub of_request : Bool → ToolFault → ToolFault
+of_request false fault.Ended = fault.Unanswered
+of_request harmless f = f
+
 -- the fault of a tool for this fault of its words
 abbrev pub fault_of_usage : UsageFault → ToolFault
 fault_of_usage usage.Unknown = fault.Usage misuse.Unknown

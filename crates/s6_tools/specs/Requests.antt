@@ -1,5 +1,6 @@
 -- A request of a client.
-use Rattle.std.specs.Prelude.{ℕ, List, [], ◌∷◌, ◌++◌, codes}
+use Rattle.std.specs.Prelude.{ℕ, List, [], ◌∷◌, ◌++◌, ◌||◌, Bool, codes}
+use Rattle.std.specs.Str.{bytes_eq}
 use Rattle.std.specs.declared.alloc.Global.{Global}
 use Rattle.s6_script.specs.Spelling.{act_spelling}
 use Rattle.svc_commands.specs.declared.svscanctl.ScanLetter.{ScanLetter}
@@ -26,3 +27,9 @@ request_line request = request ++ 10 ∷ []
 abbrev pub follow_request_of : List (List ℕ) → List ℕ
 follow_request_of (name ∷ []) = codes "follow" ++ (32 ∷ name)
 follow_request_of names = codes "follow"
+
+-- a request of this verb may come twice without harm: it changes nothing, or waits, or has the record written
+abbrev pub is_harmless : List ℕ → Bool
+is_harmless verb =
+    bytes_eq verb (codes "status") || (bytes_eq verb (codes "states") || (bytes_eq verb (codes "clock") || (bytes_eq verb (codes "permafailon")
+    || (bytes_eq verb (codes "follow") || (bytes_eq verb (codes "wait") || (bytes_eq verb (codes "subscribe") || bytes_eq verb (codes "record")))))))

@@ -6,7 +6,7 @@ use Rattle.s6_tools.specs.declared.tool_fault.ToolFault.{ToolFault}
 use Rattle.s6_tools.specs.declared.tool_fault.ToolFault.TheVariants as fault
 use Rattle.s6_tools.specs.Culprits.{culprit_of, program_of, subject_of}
 use Rattle.s6_tools.specs.FaultLines.{fault_line, name_of}
-use Rattle.s6_tools.specs.Sentences.{cause_before, cause_behind, complaint_of, help_words, misuse_word, refusal_of_subject, refusal_of_tree, right_of, see_words, unread_words}
+use Rattle.s6_tools.specs.Sentences.{cause_before, cause_behind, complaint_of, help_words, misuse_word, refusal_of_subject, refusal_of_tree, right_of, see_words, unnamed_of, unread_words}
 use Rattle.s6_tools.specs.Told.{escaped, named}
 
 -- what would be right, and where to read on
@@ -16,7 +16,7 @@ advice_text t m = codes ": " ++ (right_of t m ++ (see_words ++ (name_of t ++ hel
 -- what is wrong with the words of a tool: which word, what would be right, and where to read on
 abbrev pub misuse_text : Tool → Misuse → Option (List ℕ) → List ℕ
 misuse_text t m word =
-    misuse_word m ++ (codes ": " ++ (named (codes "a word") word ++ (complaint_of t m ++ advice_text t m)))
+    misuse_word m ++ (codes ": " ++ (named (unnamed_of m) word ++ (complaint_of t m ++ advice_text t m)))
 
 -- what the reason of a refusal says, about the word that the request names or about the tree
 abbrev pub refusal_by : Option (List ℕ) → List ℕ → Option (List ℕ) → List ℕ
@@ -36,6 +36,10 @@ abbrev pub cause_word : List ℕ → List (List ℕ) → ToolFault → List ℕ
 cause_word socket words fault.NoServer = escaped 107 socket
 cause_word socket words fault.Forbidden = escaped 107 socket
 cause_word socket words fault.Socket = escaped 107 socket
+cause_word socket words fault.Ended = escaped 107 socket
+cause_word socket words fault.Unanswered = escaped 107 socket
+cause_word socket words fault.NoAnswer = escaped 107 socket
+cause_word socket words fault.TreeEnded = escaped 107 socket
 cause_word socket words fault.Program = named (codes "the program") (program_of words)
 cause_word socket words f = []
 

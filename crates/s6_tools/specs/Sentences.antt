@@ -17,6 +17,12 @@ misuse_word misuse.BadList = codes "BadList"
 misuse_word misuse.BadName = codes "BadName"
 misuse_word misuse.BadMessage = codes "BadMessage"
 misuse_word misuse.BadPattern = codes "BadPattern"
+misuse_word misuse.Empty = codes "Empty"
+
+-- what is said of the wrong word, where it is not known which it is
+abbrev pub unnamed_of : Misuse → List ℕ
+unnamed_of misuse.Empty = codes "SOCKET"
+unnamed_of m = codes "a word"
 
 abbrev pub number_complaint : Tool → List ℕ
 number_complaint tool.Permafailon = codes " is no number"
@@ -41,6 +47,7 @@ complaint_of t misuse.BadList = list_complaint t
 complaint_of t misuse.BadName = name_complaint t
 complaint_of t misuse.BadMessage = codes " is no message"
 complaint_of t misuse.BadPattern = codes " is no pattern"
+complaint_of t misuse.Empty = codes " is empty"
 
 -- the words that a tool takes
 abbrev pub form_of : Tool → List ℕ
@@ -71,6 +78,7 @@ abbrev pub right_of : Tool → Misuse → List ℕ
 right_of t misuse.Unknown = form_of t
 right_of t misuse.Missing = form_of t
 right_of t misuse.TooMany = form_of t
+right_of t misuse.Empty = form_of t
 right_of t misuse.BadNumber = codes "digits, at most 4294967295"
 right_of t misuse.BadList = list_form t
 right_of t misuse.BadName = name_form t
@@ -95,10 +103,10 @@ refusal_of_tree reason =
     if bytes_eq reason (codes "Busy") then codes "too many wait at once, and the last place is kept for short requests; try again later" else
     if bytes_eq reason (codes "Pattern") then codes "the pattern is none, or too large; see s6_tree ftrig-wait --help" else
     if bytes_eq reason (codes "Line") then codes "the server doesn't know this request: it may be of another version" else
-    if bytes_eq reason (codes "Directory") then codes "svscan can't read its directory, or there is too much in it; its standard error says more" else
+    if bytes_eq reason (codes "Directory") then codes "svscan can't read its directory, or there is too much in it; see svcheck" else
     if bytes_eq reason (codes "Full") then codes "scans are asked for too often; try again later" else
     if bytes_eq reason (codes "Closing") then codes "the tree is ending" else
-    if bytes_eq reason (codes "Record") then codes "svscan was started without RECORD" else
+    if bytes_eq reason (codes "Record") then codes "svscan was started without RECORD, or its file was removed" else
     if bytes_eq reason (codes "NoMemory") then codes "the server has no memory for it; try again later" else
     codes "see docs/SCRIPT.md"
 
@@ -118,6 +126,10 @@ abbrev pub cause_before : ToolFault → List ℕ
 cause_before fault.NoServer = codes "no server at "
 cause_before fault.Forbidden = codes "no permission for "
 cause_before fault.Socket = codes "the server at "
+cause_before fault.Ended = codes "the server at "
+cause_before fault.Unanswered = codes "the server at "
+cause_before fault.NoAnswer = codes "no answer in 10 s from "
+cause_before fault.TreeEnded = codes "the tree at "
 cause_before fault.LongPath = codes "path is longer than 107 bytes"
 cause_before fault.Busy = codes "no place was free in ten seconds; try again later"
 cause_before fault.Write = codes "standard output took nothing: is it closed, or its disk full?"
@@ -127,6 +139,10 @@ cause_before f = codes "the system refused memory; try again later"
 abbrev pub cause_behind : ToolFault → List ℕ
 cause_behind fault.NoServer = codes " (is svscan running?)"
 cause_behind fault.Forbidden = codes " (it is its owner's)"
-cause_behind fault.Socket = codes " ended the connection, or answered strangely"
+cause_behind fault.Socket = codes " answered strangely, or the connection failed"
+cause_behind fault.Ended = codes " ended the connection before it answered"
+cause_behind fault.Unanswered = codes " ended the connection before it answered: whether it did what was asked can't be known"
+cause_behind fault.NoAnswer = codes " (is svscan stopped?)"
+cause_behind fault.TreeEnded = codes " has ended"
 cause_behind fault.Program = codes " can't be started: is it there, and executable?"
 cause_behind f = []

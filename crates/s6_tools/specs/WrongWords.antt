@@ -63,6 +63,7 @@ is_wrong wrong.Dash word = bytes_eq word (codes "-")
 is_wrong wrong.Dashes word = bytes_eq word (codes "--")
 is_wrong wrong.StrangeOption word = is_dashed word && not (is_list_option word)
 is_wrong wrong.Plain word = not (is_dashed word)
+is_wrong wrong.PlainNoNumber word = not (is_dashed word) && is_none (number_of word)
 is_wrong wrong.NoName word = is_no_name word
 is_wrong wrong.NoSingleName word = is_no_name word && not (list_any (λ l. l == 44) word)
 is_wrong wrong.NoNumber word = is_none (number_of word)

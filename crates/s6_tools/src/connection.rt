@@ -2,18 +2,19 @@
 use crate::answer::{Answer, read_answer};
 use crate::list_entry::{ListEntry, entry_of, moment_of};
 use crate::patience::{Patience, TRY_TIME};
-use crate::request::set_request_line;
+use crate::request::{is_harmless, set_request_line};
 use crate::tool_fault::ToolFault;
 use crate::words::word_or_none;
+use mio::net;
 use std::alloc::Global;
-use std::io::{self, BufRead, BufReader, Write};
+use std::io::{self, BufRead, BufReader, ErrorKind, Write};
 use std::net::Net;
 use std::os::unix::net::UnixStream;
 use std::thread;
-use std::time::{Clock, Duration};
+use std::time::{Clock, Duration, Instant};
 
-/// Asks the server at this path, on a new connection, and reads its reply. Where the server is busy, it asks again, for ten seconds at
-/// most.
+/// Asks the server at this path, on a new connection, and reads its reply. Where the server is busy, or ends the connection before the answer to a
+/// request that may come twice, it asks again, for ten seconds at most. `NoAnswer` where it doesn't answer in this time.
 pub fn ask_server<R: Net + Clock>(
     rt: &R,
     alloc: Global,
@@ -32,8 +33,9 @@ pub fn ask_within<R: Net + Clock>(
     patience: &mut Patience,
 ) -> Result<(ToolConnection, Answer), ToolFault> {
     for _ in 0..u64::MAX {
-        match ask_once(rt, alloc, path, request) {
-            Err(fault) => await_room(rt, fault, patience)?,
+        let begun = Instant::now(rt)?;
+        match ask_once(rt, alloc, path, request, patience.left) {
+            Err(fault) => await_room(rt, fault, begun, patience)?,
             asked => return asked,
         }
     }
@@ -41,16 +43,18 @@ pub fn ask_within<R: Net + Clock>(
     Err(ToolFault::Busy)
 }
 
-/// Waits before a request is tried again, where the fault says that the server had no room for it. Returns any other fault at once, and
-/// this one too once no time is left.
+/// Waits before a request is tried again that was begun at the moment `begun`, where the fault says that it may be. Returns any other fault at
+/// once, and this one too once no time is left.
 pub fn await_room<R: Clock>(
     rt: &R,
     fault: ToolFault,
+    begun: Instant,
     patience: &mut Patience,
 ) -> Result<(), ToolFault> {
-    if !fault.is_busy() {
+    if !fault.may_be_retried() {
         return Err(fault);
     }
+    patience.pass(millis_since(rt, begun));
     let Some(pause) = patience.next_pause() else {
         return Err(fault);
     };
@@ -58,17 +62,39 @@ pub fn await_room<R: Clock>(
     Ok(())
 }
 
-/// Asks the server at this path once, on a new connection, and reads its reply.
+// How many milliseconds have passed since a moment; as many as can be where the system has no clock any more.
+fn millis_since<R: Clock>(rt: &R, begun: Instant) -> u64 {
+    match begun.elapsed(rt) {
+        Ok(passed) => u64::try_from(passed.as_millis()).unwrap_or(u64::MAX),
+        Err(_) => u64::MAX,
+    }
+}
+
+/// Asks the server at this path once, on a new connection, and reads its reply. `at_most` bounds each reading and writing, in milliseconds.
 pub fn ask_once<R: Net>(
     rt: &R,
     alloc: Global,
     path: &str,
     request: &[u8],
+    at_most: Option<u64>,
 ) -> Result<(ToolConnection, Answer), ToolFault> {
-    let mut connection = ToolConnection::open(rt, alloc, path)?;
+    let mut connection = ToolConnection::open(rt, alloc, path, at_most)?;
     // A refusal by the server is a fault.
     let answer = connection.ask(request)?;
     Ok((connection, answer))
+}
+
+// Connects to the socket at this path. It never waits: where a stopped server lets too many wait to be accepted, the fault is `Busy`.
+fn connect<R: Net>(rt: &R, path: &str) -> Result<UnixStream, ToolFault> {
+    match net::UnixStream::connect(rt, path) {
+        Ok(stream) => {
+            let stream = UnixStream::from(stream);
+            stream.set_nonblocking(false)?;
+            Ok(stream)
+        }
+        Err(error) if error.kind() == ErrorKind::WouldBlock => Err(ToolFault::Busy),
+        Err(error) => Err(error.into()),
+    }
 }
 
 /// A connection, and the bytes that came on it and aren't read yet.
@@ -80,10 +106,20 @@ pub struct ToolConnection {
 }
 
 impl ToolConnection {
-    /// Connects to the socket at this path. `NoServer` where there is no socket or nobody listens, `Forbidden` without permission,
+    /// Connects to the socket at this path. `at_most` bounds each reading and writing from now on, in milliseconds: then the fault is `NoAnswer`.
+    /// `NoServer` where there is no socket or nobody listens, `Busy` where too many wait to be accepted, `Forbidden` without permission,
     /// `LongPath` where the path is too long for a socket, `NoMemory` where memory is refused; else `Socket`.
-    pub fn open<R: Net>(rt: &R, alloc: Global, path: &str) -> Result<ToolConnection, ToolFault> {
-        let stream = UnixStream::connect(rt, path)?;
+    pub fn open<R: Net>(
+        rt: &R,
+        alloc: Global,
+        path: &str,
+        at_most: Option<u64>,
+    ) -> Result<ToolConnection, ToolFault> {
+        let stream = connect(rt, path)?;
+        // A time of 0 would be none.
+        let time = at_most.map(|millis| Duration::from_millis(millis.max(1)));
+        stream.set_read_timeout(time)?;
+        stream.set_write_timeout(time)?;
         Ok(ToolConnection {
             reader: BufReader::new(alloc, stream)?,
             // The line that was read last: none yet.
@@ -91,21 +127,20 @@ impl ToolConnection {
         })
     }
 
-    /// Sends a request in one write, and reads its reply. A refusal is a fault, and so is a server without a seat. At `NoMemory` the
-    /// request may have been sent or not.
+    /// Sends a request in one write, and reads its reply. A refusal is a fault, and so is a server without a seat. Where the connection ends before
+    /// the reply, the fault is `Ended`, or `Unanswered` of a request that may not come twice. At `NoMemory` the request may have been sent or not.
     pub fn ask(&mut self, request: &[u8]) -> Result<Answer, ToolFault> {
         let sent = self.send(request)?;
         // Whatever came of the write, the server may have answered.
-        let answer = self.answer();
-        match answer {
+        match self.answer() {
             // The server may have written this and ended the connection before it read the whole request.
-            Ok(Answer::Busy) | Ok(Answer::Refused(_)) => {}
-            _ => sent?,
-        }
-        match answer? {
-            Answer::Refused(reason) => Err(ToolFault::Refused(reason)),
-            Answer::Busy => Err(ToolFault::Busy),
-            answer => Ok(answer),
+            Ok(Answer::Refused(reason)) => Err(ToolFault::Refused(reason)),
+            Ok(Answer::Busy) => Err(ToolFault::Busy),
+            Ok(answer) => {
+                sent?;
+                Ok(answer)
+            }
+            Err(fault) => Err(fault_of(&sent, fault).of_request(is_harmless(request))),
         }
     }
 
@@ -120,10 +155,14 @@ impl ToolConnection {
     /// Asks for the states of all services, and reads them up to the empty line. A refusal is a fault, and so is a server without a seat.
     pub fn ask_states(&mut self, alloc: Global) -> Result<Vec<ListEntry>, ToolFault> {
         let sent = self.send(b"states")?;
-        let entries = self.read_entries(alloc)?;
-        // What reading gave counts first: the server may have refused and ended before it read the request.
-        sent?;
-        Ok(entries)
+        // What reading gives counts first: the server may have refused and ended before it read the request.
+        match self.read_entries(alloc) {
+            Ok(entries) => {
+                sent?;
+                Ok(entries)
+            }
+            Err(fault) => Err(fault_of(&sent, fault)),
+        }
     }
 
     // Reads the server's reply to `states` up to its empty line. Each line gives an entry: a service, or a directory that the last scan
@@ -164,12 +203,12 @@ impl ToolConnection {
         moment_of(word_or_none(self.line.as_slice(), 1)).ok_or(ToolFault::Socket)
     }
 
-    /// Reads the next line, which may be empty; `line` gives it afterwards. `Socket` where the connection ends before it.
+    /// Reads the next line, which may be empty; `line` gives it afterwards. `Ended` where the connection ends before it.
     pub fn next_line(&mut self) -> Result<(), ToolFault> {
         self.read_line()
     }
 
-    /// Reads up to the next line that isn't empty, and returns what it says. `Socket` where the connection ends before it.
+    /// Reads up to the next line that isn't empty, and returns what it says. `Ended` where the connection ends before it.
     pub fn answer(&mut self) -> Result<Answer, ToolFault> {
         for _ in 0..u64::MAX {
             self.read_line()?;
@@ -187,13 +226,22 @@ impl ToolConnection {
         self.reader.read_until(b'\n', &mut self.line)?;
         match self.line.pop() {
             Some(b'\n') => Ok(()),
-            _ => Err(ToolFault::Socket),
+            _ => Err(ToolFault::Ended),
         }
     }
 
     /// The line that was read last.
     pub fn line(&self) -> &[u8] {
         self.line.as_slice()
+    }
+}
+
+// The fault where no answer was read: `Busy` where the server took nothing of the request any more, so that it did nothing. A request is written by
+// one call, of which the system takes all or nothing.
+fn fault_of(sent: &io::Result<()>, fault: ToolFault) -> ToolFault {
+    match sent {
+        Err(error) if error.kind() == ErrorKind::BrokenPipe => ToolFault::Busy,
+        _ => fault,
     }
 }
 

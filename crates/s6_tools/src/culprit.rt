@@ -196,7 +196,7 @@ fn clues_of(tool: Tool, misuse: Misuse) -> (Clue, Clue)
     ensures { result ≡ clues_of tool misuse }
 {
     match misuse {
-        Misuse::Missing => (Clue::Nowhere, Clue::Nowhere),
+        Misuse::Missing | Misuse::Empty => (Clue::Nowhere, Clue::Nowhere),
         Misuse::Unknown => (Clue::First(strange_of(tool)), spare_of(tool)),
         Misuse::TooMany => excess_of(tool),
         Misuse::BadNumber => number_clues(tool),
@@ -263,9 +263,12 @@ fn subject_clues(tool: Tool) -> (Clue, Clue)
         // The name stands first, or behind `-o` and its list of fields.
         Tool::Svstat => (Clue::AtIf(0, Wrong::Plain), Clue::AtIf(2, Wrong::Plain)),
         Tool::Svscanctl | Tool::Record => (Clue::Nowhere, Clue::Nowhere),
-        Tool::Svwait | Tool::Svlisten | Tool::List | Tool::Follow => {
-            (Clue::Only(Wrong::Plain), Clue::Nowhere)
-        }
+        // One plain word may be the number of milliseconds behind `-t`.
+        Tool::Svwait | Tool::Svlisten => (
+            Clue::Only(Wrong::Plain),
+            Clue::Only(Wrong::PlainNoNumber),
+        ),
+        Tool::List | Tool::Follow => (Clue::Only(Wrong::Plain), Clue::Nowhere),
         _ => (Clue::At(0), Clue::Nowhere),
     }
 }

@@ -9,7 +9,7 @@ use crate::culprit::{culprit_of, program_of, subject_of};
 use crate::misuse::Misuse;
 use crate::sentences::{
     cause_before, cause_behind, complaint_of, help_words, refusal_of_subject, refusal_of_tree,
-    right_of, see_words, unread_words,
+    right_of, see_words, unnamed_of, unread_words,
 };
 use crate::told::{Told, add_escaped, add_named};
 use crate::tool::Tool;
@@ -103,8 +103,14 @@ fn add_reason(told: &mut Told, fault: &ToolFault) -> Result<(), CapacityError>
         }
         ToolFault::Unread(_) => told.try_extend_from_slice(b"refused NoService"),
         ToolFault::Busy => told.try_extend_from_slice(b"busy"),
-        ToolFault::NoServer | ToolFault::Forbidden | ToolFault::LongPath | ToolFault::Socket =>
-            told.try_extend_from_slice(b"socket"),
+        ToolFault::NoServer
+        | ToolFault::Forbidden
+        | ToolFault::LongPath
+        | ToolFault::Socket
+        | ToolFault::Ended
+        | ToolFault::Unanswered
+        | ToolFault::NoAnswer
+        | ToolFault::TreeEnded => told.try_extend_from_slice(b"socket"),
         ToolFault::Program => told.try_extend_from_slice(b"program"),
         ToolFault::Write => told.try_extend_from_slice(b"write"),
         ToolFault::NoMemory => told.try_extend_from_slice(b"no memory"),
@@ -158,9 +164,13 @@ fn add_cause_word(
         ≡ told.old.items ++ cause_word socket.now (map (λ w. w.now) words.now) fault.now) }
 {
     match fault {
-        ToolFault::NoServer | ToolFault::Forbidden | ToolFault::Socket => {
-            add_escaped(told, PATH_BYTES, socket.as_bytes())
-        }
+        ToolFault::NoServer
+        | ToolFault::Forbidden
+        | ToolFault::Socket
+        | ToolFault::Ended
+        | ToolFault::Unanswered
+        | ToolFault::NoAnswer
+        | ToolFault::TreeEnded => { add_escaped(told, PATH_BYTES, socket.as_bytes()) }
         ToolFault::Program => add_named(told, b"the program", program_of(words)),
         _ => Ok(()),
     }
@@ -178,7 +188,7 @@ fn add_misuse(
 {
     told.try_extend_from_slice(misuse.word().as_bytes())?;
     told.try_extend_from_slice(b": ")?;
-    add_named(told, b"a word", word)?;
+    add_named(told, unnamed_of(misuse).as_bytes(), word)?;
     told.try_extend_from_slice(complaint_of(tool, misuse).as_bytes())?;
     add_advice(told, tool, misuse)
 }

@@ -10,9 +10,10 @@ use day_times::day_millisecond;
 use std::alloc::Global;
 use std::io::Write;
 use std::net::Net;
-use std::time::Clock;
+use std::time::{Clock, Instant};
 
-/// Prints each letter of each service, or of the services named, as it comes, until the connection ends: then the fault is `Socket`. The tool
+/// Prints each letter of each service, or of the services named, as it comes, until the connection ends: then the fault is `TreeEnded`, or `Ended`
+/// where a server is there still. The tool
 /// is this program's own, not one of s6; for the letters see page `s6-supervise`, "Events".
 pub fn run_follow<R: Net + Clock, W: Write>(
     rt: &R,
@@ -26,7 +27,9 @@ pub fn run_follow<R: Net + Clock, W: Write>(
     // `start` is the time of day at which the tree's clock was 0.
     let (mut connection, start) = follow(rt, alloc, socket, &command)?;
     for _ in 0..u64::MAX {
-        connection.next_line()?;
+        if let Err(fault) = connection.next_line() {
+            return Err(fault_at_end(rt, alloc, socket, fault));
+        }
         // Other lines, as empty ones, are passed over.
         if let Some(letter) = letter_of(connection.line()) {
             print_letter(alloc, &letter, start, &command, output)?;
@@ -47,8 +50,9 @@ fn follow<R: Net + Clock>(
     // It goes on trying without end.
     let mut patience = Patience::of(None);
     for _ in 0..u64::MAX {
+        let begun = Instant::now(rt)?;
         match follow_once(rt, alloc, socket, command) {
-            Err(fault) => await_room(rt, fault, &mut patience)?,
+            Err(fault) => await_room(rt, fault, begun, &mut patience)?,
             asked => return asked,
         }
     }
@@ -64,12 +68,23 @@ fn follow_once<R: Net>(
     socket: &str,
     command: &ListCommand,
 ) -> Result<(ToolConnection, u64), ToolFault> {
-    let mut connection = ToolConnection::open(rt, alloc, socket)?;
+    let mut connection = ToolConnection::open(rt, alloc, socket, None)?;
     let start = connection.ask_clock()?;
     let request = follow_request(alloc, command.names.as_slice())?;
     // A refusal is a fault.
     let _done = connection.ask(request.as_slice())?;
     Ok((connection, start))
+}
+
+// The fault at the end of what is followed: where the connection has ended and no server is there any more, the tree has ended too.
+fn fault_at_end<R: Net>(rt: &R, alloc: Global, socket: &str, fault: ToolFault) -> ToolFault {
+    match fault {
+        ToolFault::Ended => match ToolConnection::open(rt, alloc, socket, None) {
+            Err(ToolFault::NoServer) => ToolFault::TreeEnded,
+            _ => ToolFault::Ended,
+        },
+        fault => fault,
+    }
 }
 
 // Prints a letter in one write, if its service is asked for. `start` is the time of day at which the tree's clock was 0.

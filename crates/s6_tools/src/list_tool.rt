@@ -14,7 +14,7 @@ use day_times::day_second;
 use std::alloc::{AllocError, Global};
 use std::io::Write;
 use std::net::Net;
-use std::time::Clock;
+use std::time::{Clock, Instant};
 
 /// Prints the services of the tree and the directories that the last scan could not read: all, or those of these names. Where one of the
 /// names has neither, the others are printed, and then the fault is `Refused`, for NoService. The tool is this program's own, not one of
@@ -31,7 +31,7 @@ pub fn run_list<R: Net + Clock, W: Write>(
     print_entries(alloc, entries, &command, output)
 }
 
-// The states of all services. Where the server is busy, it asks again, for ten seconds at most.
+// The states of all services. Where the server is busy, or ends the connection, it asks again, for ten seconds at most.
 fn ask_states<R: Net + Clock>(
     rt: &R,
     alloc: Global,
@@ -39,8 +39,9 @@ fn ask_states<R: Net + Clock>(
 ) -> Result<Vec<ListEntry>, ToolFault> {
     let mut patience = Patience::of(Some(TRY_TIME));
     for _ in 0..u64::MAX {
-        match ask_states_once(rt, alloc, socket) {
-            Err(fault) => await_room(rt, fault, &mut patience)?,
+        let begun = Instant::now(rt)?;
+        match ask_states_once(rt, alloc, socket, patience.left) {
+            Err(fault) => await_room(rt, fault, begun, &mut patience)?,
             asked => return asked,
         }
     }
@@ -48,13 +49,14 @@ fn ask_states<R: Net + Clock>(
     Err(ToolFault::Busy)
 }
 
-/// The states of all services, asked for once.
+/// The states of all services, asked for once. `at_most` bounds each reading, in milliseconds.
 pub fn ask_states_once<R: Net>(
     rt: &R,
     alloc: Global,
     socket: &str,
+    at_most: Option<u64>,
 ) -> Result<Vec<ListEntry>, ToolFault> {
-    let mut connection = ToolConnection::open(rt, alloc, socket)?;
+    let mut connection = ToolConnection::open(rt, alloc, socket, at_most)?;
     // The time of day at which the tree's clock was 0.
     let start = connection.ask_clock()?;
     // The answer to `clock` ends with an empty line.

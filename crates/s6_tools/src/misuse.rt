@@ -21,6 +21,8 @@ pub enum Misuse {
     BadMessage,
     /// The word where a pattern belongs is no pattern.
     BadPattern,
+    /// The word where a path belongs is empty.
+    Empty,
 }
 
 impl Misuse {
@@ -37,6 +39,7 @@ impl Misuse {
             Misuse::BadName => "BadName",
             Misuse::BadMessage => "BadMessage",
             Misuse::BadPattern => "BadPattern",
+            Misuse::Empty => "Empty",
         }
     }
 }

@@ -1,6 +1,7 @@
-//! How long a tool goes on trying where the server has no room for it: between two tries it makes a pause, which grows. Times are in milliseconds.
+//! How long a tool goes on trying, where the server has no room for it or ends the connection. Between two tries it makes a pause, which grows.
+//! Times are in milliseconds.
 ghost use Rattle.std.specs.Prelude.{◌≡◌, is_none};
-ghost use Rattle.s6_tools.specs.Patience.{first_pause, time_of_wait, timeout_within, pause_of, after_pause};
+ghost use Rattle.s6_tools.specs.Patience.{first_pause, time_of_wait, timeout_within, pause_of, after_pause, left_after};
 
 /// How long a tool first waits before it tries again, in milliseconds.
 pub const FIRST_PAUSE: u64 = 20;
@@ -51,6 +52,16 @@ impl Patience {
             None => 0,
             Some(left) => left.clamp(1, 4_294_967_295) as u32,
         }
+    }
+
+    /// Notes that so many milliseconds have passed.
+    pub fn pass(&mut self, millis: u64)
+        ensures { self.new ≡ record self.old { left = left_after self.old.left millis } }
+    {
+        self.left = match self.left {
+            None => None,
+            Some(left) => Some(left.saturating_sub(millis)),
+        };
     }
 
     /// Whether no time is left. Where there is no end, some always is.

@@ -3,8 +3,10 @@
 ghost use Rattle.std.specs.Prelude.{◌≡◌, ◌++◌, ◌∷◌, [], IfOk, OnOk, false};
 ghost use Rattle.std.specs.List.{join_with_byte};
 ghost use Rattle.tree_core.specs.declared.input.Act.TheVariants.{Svc, Status, Permafailon, Wait, Subscribe, Send, MakeDir};
-ghost use Rattle.s6_tools.specs.Requests.{follow_request_of, request_of, request_line, scan_request_of};
+ghost use Rattle.s6_tools.specs.Requests.{follow_request_of, is_harmless, request_of, request_line, scan_request_of};
+ghost use Rattle.s6_tools.specs.Words.{word_in};
 
+use crate::words::{is_word, word_or_none};
 use s6_events::Name;
 use s6_script::{push_named, push_permafailon, push_send, push_subscribe, push_svc, push_wait};
 use std::alloc::{AllocError, Global};
@@ -19,6 +21,21 @@ pub fn set_request_line(line: &mut Vec<u8>, request: &[u8]) -> Result<(), AllocE
     line.clear();
     line.extend_from_slice(request)?;
     line.extend_from_slice(b"\n")
+}
+
+/// Whether a request may come twice without harm: it changes nothing, or waits, or has the record written.
+pub fn is_harmless(request: &[u8]) -> bool
+    ensures { result ≡ is_harmless (word_in request.now 0) }
+{
+    let verb = word_or_none(request, 0);
+    is_word(verb, b"status")
+        || is_word(verb, b"states")
+        || is_word(verb, b"clock")
+        || is_word(verb, b"permafailon")
+        || is_word(verb, b"follow")
+        || is_word(verb, b"wait")
+        || is_word(verb, b"subscribe")
+        || is_word(verb, b"record")
 }
 
 /// The request of `svc`.

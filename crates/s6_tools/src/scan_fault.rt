@@ -4,6 +4,7 @@ ghost use Rattle.s6_tools.specs.ListEntries.{why_unread};
 
 use crate::list_entry::ListEntry;
 use crate::list_tool::ask_states_once;
+use crate::patience::TRY_TIME;
 use crate::told_word::ToldWord;
 use crate::tool_fault::ToolFault;
 use crate::words::is_word;
@@ -47,7 +48,7 @@ fn ask_why_unread<R: Net>(
         return None;
     }
     // What the server tells of all services, and of the directories that the last scan could not read.
-    let entries = ask_states_once(rt, alloc, socket).ok()?;
+    let entries = ask_states_once(rt, alloc, socket, Some(TRY_TIME)).ok()?;
     for entry in entries.as_slice() {
         if let Some(why) = why_unread(entry, name) {
             return Some(why);

@@ -1,7 +1,7 @@
 //! The sentences about a fault, and about what would be right.
 ghost use Rattle.std.specs.Prelude.{◌≡◌, option_map};
 ghost use Rattle.s6_tools.specs.Sentences.{complaint_of, number_complaint, list_complaint, name_complaint, form_of, list_form, name_form, right_of, refusal_of_subject, refusal_of_tree};
-ghost use Rattle.s6_tools.specs.Sentences.{cause_before, cause_behind, help_words, see_words, unread_words};
+ghost use Rattle.s6_tools.specs.Sentences.{cause_before, cause_behind, help_words, see_words, unnamed_of, unread_words};
 
 use crate::misuse::Misuse;
 use crate::tool::Tool;
@@ -40,6 +40,16 @@ fn name_complaint(tool: Tool) -> &'static str
     }
 }
 
+/// What the second line about a fault says of the wrong word, where it is not known which it is.
+pub fn unnamed_of(misuse: Misuse) -> &'static str
+    ensures { result.now ≡ unnamed_of misuse }
+{
+    match misuse {
+        Misuse::Empty => "SOCKET",
+        _ => "a word",
+    }
+}
+
 /// What the second line about a fault says behind the wrong word of a command line.
 pub fn complaint_of(tool: Tool, misuse: Misuse) -> &'static str
     ensures { result.now ≡ complaint_of tool misuse }
@@ -53,6 +63,7 @@ pub fn complaint_of(tool: Tool, misuse: Misuse) -> &'static str
         Misuse::BadName => name_complaint(tool),
         Misuse::BadMessage => " is no message",
         Misuse::BadPattern => " is no pattern",
+        Misuse::Empty => " is empty",
     }
 }
 
@@ -108,7 +119,7 @@ pub fn right_of(tool: Tool, misuse: Misuse) -> &'static str
     ensures { result.now ≡ right_of tool misuse }
 {
     match misuse {
-        Misuse::Unknown | Misuse::Missing | Misuse::TooMany => form_of(tool),
+        Misuse::Unknown | Misuse::Missing | Misuse::TooMany | Misuse::Empty => form_of(tool),
         Misuse::BadNumber => "digits, at most 4294967295",
         Misuse::BadList => list_form(tool),
         Misuse::BadName => name_form(tool),
@@ -153,13 +164,13 @@ pub fn refusal_of_tree(reason: &[u8]) -> &'static str
     } else if is_word(reason, b"Line") {
         "the server doesn't know this request: it may be of another version"
     } else if is_word(reason, b"Directory") {
-        "svscan can't read its directory, or there is too much in it; its standard error says more"
+        "svscan can't read its directory, or there is too much in it; see svcheck"
     } else if is_word(reason, b"Full") {
         "scans are asked for too often; try again later"
     } else if is_word(reason, b"Closing") {
         "the tree is ending"
     } else if is_word(reason, b"Record") {
-        "svscan was started without RECORD"
+        "svscan was started without RECORD, or its file was removed"
     } else if is_word(reason, b"NoMemory") {
         "the server has no memory for it; try again later"
     } else {
@@ -198,7 +209,9 @@ pub fn cause_before(fault: &ToolFault) -> &'static str
     match fault {
         ToolFault::NoServer => "no server at ",
         ToolFault::Forbidden => "no permission for ",
-        ToolFault::Socket => "the server at ",
+        ToolFault::Socket | ToolFault::Ended | ToolFault::Unanswered => "the server at ",
+        ToolFault::NoAnswer => "no answer in 10 s from ",
+        ToolFault::TreeEnded => "the tree at ",
         ToolFault::LongPath => "path is longer than 107 bytes",
         ToolFault::Busy => "no place was free in ten seconds; try again later",
         ToolFault::Write => "standard output took nothing: is it closed, or its disk full?",
@@ -214,7 +227,13 @@ pub fn cause_behind(fault: &ToolFault) -> &'static str
     match fault {
         ToolFault::NoServer => " (is svscan running?)",
         ToolFault::Forbidden => " (it is its owner's)",
-        ToolFault::Socket => " ended the connection, or answered strangely",
+        ToolFault::Socket => " answered strangely, or the connection failed",
+        ToolFault::Ended => " ended the connection before it answered",
+        ToolFault::Unanswered => {
+            " ended the connection before it answered: whether it did what was asked can't be known"
+        }
+        ToolFault::NoAnswer => " (is svscan stopped?)",
+        ToolFault::TreeEnded => " has ended",
         ToolFault::Program => " can't be started: is it there, and executable?",
         _ => "",
     }

@@ -149,6 +149,9 @@ fn run<R: Net + Processes + Clock, W: Write>(
     let [socket, words @ ..] = words else {
         return Err(ToolFault::Usage(Misuse::Missing));
     };
+    if socket.is_empty() {
+        return Err(ToolFault::Usage(Misuse::Empty));
+    }
     match tool {
         Tool::Svc => run_svc(rt, alloc, socket, words),
         Tool::Svstat => run_svstat(rt, alloc, socket, words, output),

@@ -1,6 +1,6 @@
 //! Why a tool didn't do what it was asked for.
 ghost use Rattle.std.specs.Prelude.{◌≡◌};
-ghost use Rattle.s6_tools.specs.Endings.{is_busy};
+ghost use Rattle.s6_tools.specs.Endings.{is_busy, may_be_retried, of_request};
 
 use crate::misuse::Misuse;
 use crate::told_word::ToldWord;
@@ -27,8 +27,16 @@ pub enum ToolFault {
     Forbidden,
     /// The path is longer than that of a socket may be. Status 111.
     LongPath,
-    /// The connection failed, or the server ended it, or wrote a line that no server writes. Status 111.
+    /// The connection failed, or the server wrote a line that no server writes. Status 111.
     Socket,
+    /// The connection ended before the answer to a request that may come twice. Status 111.
+    Ended,
+    /// The connection ended before the answer to a request that changes something: nobody can know whether it was carried out. Status 111.
+    Unanswered,
+    /// No answer came in time. Status 111.
+    NoAnswer,
+    /// The tree that was followed has ended. Status 111.
+    TreeEnded,
     /// The program behind `svlisten` could not be started. Status 111.
     Program,
     /// Standard output took nothing. Status 111.
@@ -38,7 +46,28 @@ pub enum ToolFault {
 }
 
 impl ToolFault {
-    /// Whether the server had no room and did nothing, so the same may be asked again.
+    /// Whether the same may be asked again: the server had no room and did nothing, or the connection ended before the answer to a request that may
+    /// come twice.
+    pub fn may_be_retried(&self) -> bool
+        ensures { result ≡ may_be_retried self.now }
+    {
+        match self {
+            ToolFault::Ended => true,
+            _ => self.is_busy(),
+        }
+    }
+
+    /// The fault of a request: where the connection ended before the answer, and the request may not come twice, that is told.
+    pub fn of_request(self, is_harmless: bool) -> ToolFault
+        ensures { result ≡ of_request is_harmless self }
+    {
+        match self {
+            ToolFault::Ended if !is_harmless => ToolFault::Unanswered,
+            fault => fault,
+        }
+    }
+
+    /// Whether the server had no room and did nothing.
     pub fn is_busy(&self) -> bool
         ensures { result ≡ is_busy self.now }
     {
@@ -84,6 +113,9 @@ impl From<io::Error> for ToolFault {
             io::ErrorKind::NotFound | io::ErrorKind::ConnectionRefused => ToolFault::NoServer,
             io::ErrorKind::PermissionDenied => ToolFault::Forbidden,
             io::ErrorKind::InvalidInput => ToolFault::LongPath,
+            io::ErrorKind::ConnectionReset | io::ErrorKind::BrokenPipe => ToolFault::Ended,
+            // The time is up that the connection gives to each reading and writing.
+            io::ErrorKind::WouldBlock | io::ErrorKind::TimedOut => ToolFault::NoAnswer,
             _ => ToolFault::Socket,
         }
     }

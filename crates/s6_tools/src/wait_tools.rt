@@ -11,7 +11,7 @@ use crate::tool_fault::ToolFault;
 use std::alloc::Global;
 use std::net::Net;
 use std::process::{Command, Processes};
-use std::time::Clock;
+use std::time::{Clock, Instant};
 use svc_commands::{WaitCommand, compile_svlisten, compile_svwait};
 
 // The exit status for a waiter that was released with this outcome.
@@ -26,6 +26,9 @@ fn status_of(outcome: Outcome) -> u8
     }
 }
 
+/// How long after its timeout the verdict of a wait may still come, in milliseconds; then the server counts as one that doesn't answer.
+const VERDICT_TIME: u64 = 250;
+
 // Has the server make a waiter, and returns once its reply has come. While the server has no room for it, it is asked again, with what is left of
 // the timeout. None where the time was up before.
 fn subscribe<R: Net + Clock>(
@@ -33,33 +36,58 @@ fn subscribe<R: Net + Clock>(
     alloc: Global,
     socket: &str,
     command: &mut WaitCommand,
+    patience: &mut Patience,
 ) -> Result<Option<ToolConnection>, ToolFault> {
-    let mut patience = Patience::of_wait(command.timeout);
     for _ in 0..u64::MAX {
+        let begun = Instant::now(rt)?;
         command.timeout = patience.timeout_left();
         let request = wait_request(alloc, command)?;
-        match ask_once(rt, alloc, socket, request.as_slice()) {
+        let at_most = patience.left.map(|left| left.saturating_add(VERDICT_TIME));
+        match ask_once(rt, alloc, socket, request.as_slice(), at_most) {
             Ok((connection, Answer::Waiter)) => return Ok(Some(connection)),
             // No server gives another answer to this request.
             Ok(_) => return Err(ToolFault::Socket),
-            Err(fault) if fault.is_busy() && patience.is_over() => return Ok(None),
-            Err(fault) => await_room(rt, fault, &mut patience)?,
+            Err(ToolFault::NoAnswer) => return Ok(None),
+            Err(fault) if fault.may_be_retried() => {
+                if await_room(rt, fault, begun, patience).is_err() {
+                    // No time is left.
+                    return Ok(None);
+                }
+            }
+            Err(fault) => return Err(fault),
         }
     }
     // So many tries never come.
     Ok(None)
 }
 
-// Waits until the waiter of this connection is released. Returns the exit status for its outcome; `Socket` where the connection ends before, or
-// another line comes.
-fn await_release(connection: &mut ToolConnection) -> Result<u8, ToolFault> {
-    match connection.answer()? {
-        Answer::Released(outcome) => Ok(status_of(outcome)),
-        _ => Err(ToolFault::Socket),
+// Waits until the waiter of this connection is released. Returns the outcome; `Ended` where the connection ends before, `Socket` where another line
+// comes. A server that doesn't tell the verdict in time counts as one whose wait timed out.
+fn await_release(connection: &mut ToolConnection) -> Result<Outcome, ToolFault> {
+    match connection.answer() {
+        Ok(Answer::Released(outcome)) => Ok(outcome),
+        Ok(_) => Err(ToolFault::Socket),
+        Err(ToolFault::NoAnswer) => Ok(Outcome::TimedOut),
+        Err(fault) => Err(fault),
     }
 }
 
-/// Waits for services. While the server has no room for the wait, it asks again until the timeout is over. Page `s6-svwait`.
+// Waits for services once: the outcome, or `Ended` where the connection ends before.
+fn wait_once<R: Net + Clock>(
+    rt: &R,
+    alloc: Global,
+    socket: &str,
+    command: &mut WaitCommand,
+    patience: &mut Patience,
+) -> Result<Outcome, ToolFault> {
+    match subscribe(rt, alloc, socket, command, patience)? {
+        Some(mut connection) => await_release(&mut connection),
+        None => Ok(Outcome::TimedOut),
+    }
+}
+
+/// Waits for services. While the server has no room for the wait, or where the connection ends, it asks again until the timeout is over. Page
+/// `s6-svwait`.
 pub fn run_svwait<R: Net + Clock>(
     rt: &R,
     alloc: Global,
@@ -67,10 +95,21 @@ pub fn run_svwait<R: Net + Clock>(
     words: &[&str],
 ) -> Result<u8, ToolFault> {
     let mut command = compile_svwait(alloc, words)?;
-    match subscribe(rt, alloc, socket, &mut command)? {
-        Some(mut connection) => await_release(&mut connection),
-        None => Ok(status_of(Outcome::TimedOut)),
+    let mut patience = Patience::of_wait(command.timeout);
+    for _ in 0..u64::MAX {
+        let begun = Instant::now(rt)?;
+        match wait_once(rt, alloc, socket, &mut command, &mut patience) {
+            // Where no pause is left, the time is up.
+            Err(ToolFault::Ended) => match await_room(rt, ToolFault::Ended, begun, &mut patience) {
+                Ok(()) => {}
+                Err(_) => return Ok(status_of(Outcome::TimedOut)),
+            },
+            Err(fault) => return Err(fault),
+            Ok(outcome) => return Ok(status_of(outcome)),
+        }
     }
+    // So many tries never come.
+    Ok(status_of(Outcome::TimedOut))
 }
 
 /// Makes a waiter, starts a program, and waits for services. Where the time was up before the server had room for the waiter, no program is
@@ -82,12 +121,14 @@ pub fn run_svlisten<R: Net + Processes + Clock>(
     words: &[&str],
 ) -> Result<u8, ToolFault> {
     let mut command = compile_svlisten(alloc, words)?;
+    let mut patience = Patience::of_wait(command.wait.timeout);
     // The waiter is there before the program starts, so nothing that the program does is missed.
-    let Some(mut connection) = subscribe(rt, alloc, socket, &mut command.wait)? else {
+    let subscribed = subscribe(rt, alloc, socket, &mut command.wait, &mut patience)?;
+    let Some(mut connection) = subscribed else {
         return Ok(status_of(Outcome::TimedOut));
     };
     start_program(rt, alloc, command.program)?;
-    await_release(&mut connection)
+    Ok(status_of(await_release(&mut connection)?))
 }
 
 // Starts a program: its name first, then its arguments.

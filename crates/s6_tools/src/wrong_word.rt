@@ -21,6 +21,8 @@ pub enum Wrong {
     StrangeOption,
     /// A word that is no option.
     Plain,
+    /// A word that is neither an option nor a number.
+    PlainNoNumber,
     /// A word that is neither an option nor a name.
     NoName,
     /// A word that is neither an option nor a name, and has no comma: a list of the fields of `svstat` has one.
@@ -148,6 +150,7 @@ pub fn is_wrong(wrong: Wrong, word: &[u8]) -> bool
         Wrong::Dashes => is_word(word, b"--"),
         Wrong::StrangeOption => is_dashed(word) && !is_list_option(word),
         Wrong::Plain => !is_dashed(word),
+        Wrong::PlainNoNumber => !is_dashed(word) && parse_number(word).is_none(),
         Wrong::NoName => is_no_name(word),
         Wrong::NoSingleName => is_no_name(word) && !has_byte(word, b','),
         Wrong::NoNumber => parse_number(word).is_none(),

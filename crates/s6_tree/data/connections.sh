@@ -49,20 +49,33 @@ seat() {
     false
 }
 
-# Ten connections that wait, an eleventh, which may not, and one more.
+# Whether a connection that comes now gets no seat.
+is_sent_away() { [ "$(connect </dev/null)" = busy ]; }
+
+# Ten connections that wait, an eleventh, which may not, and one more: the eleventh waits for nothing, and makes way.
 for number in $(seq 10); do
     soon seat seat$number 'wait D a 0 web' wait
 done
 soon seat seat11 'tally web' tally
-say 'one more' "$(connect </dev/null)"
 request seat11 'wait D a 0 web'
 soon has_replies seat11 2
 say 'a wait on the last seat' "$(tail -n 2 "$root/seat11.out" | joined)"
-
-# The eleventh says nothing, and makes way for a client; the others wait, and stay.
-tell svstat -o up three
-whether 'a silent connection makes way' soon has_ended "$client_seat11"
+say 'one more' "$(echo 'tally three' | connect | sed 's/ .*//' | joined)"
+whether 'an idle connection makes way' soon has_ended "$client_seat11"
 close seat11
+tell svstat -o up three
+
+# An eleventh that doesn't read its answers makes way too, but not at once: one more is sent away, and gets the seat a second later.
+mkfifo "$root/unread"
+exec 3<>"$root/unread"
+yes 'status web' | head -n 20000 >"$root/asked"
+"$program" connect "$socket" <"$root/asked" >&3 3>&- &
+unread=$!
+say 'one more' "$(soon is_sent_away && echo busy)"
+whether 'it gets in later' soon comes_to '0 true' svstat -o up three
+kill $unread
+wait $unread
+exec 3>&-
 say 'still there' "$(for number in $(seq 10); do eval "is_child \$client_seat$number" && echo $number; done | joined)"
 close seat10
 whether 'a seat is free again' soon comes_to 0 svc -u web
@@ -70,6 +83,17 @@ for number in $(seq 9); do
     close seat$number
 done
 whether 'all have left' soon has_at_most $before
+
+# Eleven that have just asked: each makes way, and comes again.
+for number in $(seq 11); do
+    soon seat seat$number 'tally web' tally
+done
+tell svstat -o up three
+tell svstat -o up three
+for number in $(seq 11); do
+    close seat$number
+done
+whether 'all have left again' soon has_at_most $before
 
 # A waiter that holds at once, and 64 that wait, on one connection: the last of these gets the place of the first. One more is refused.
 open many

@@ -46,7 +46,7 @@ whether 'a waiter of the first run, and its release in the last' grep -q '^r [0-
 close waiter
 end
 whether '50 handovers and more' [ "$(grep -c 'svscan: handover$' "$root/errors")" -ge 50 ]
-whether "a run that isn't executable is told" grep -q "/broken/run can't be started$" "$root/errors"
+whether "a run that isn't executable is told" grep -q "/broken/run can't be started (svc -u tries again at once)$" "$root/errors"
 
 # How many inputs the record has, if it is legal.
 legal=$("$program" replay --check <"$record" | sed -n 's/^legal //p')

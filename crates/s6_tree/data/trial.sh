@@ -41,7 +41,7 @@ joined() { sed '/^$/d' | paste -s -d ' ' -; }
 # The lines that were written, without the line for people behind one that tells of a fault.
 without_hints() {
     awk -F : 'told != "" && told == $1 { told = ""; next }
-        { told = /^[a-z0-9_-]+: (usage|refused [A-Za-z]+|busy|socket|program|write|no memory|no shell|directory|record|thread|clock)$/ ? $1 : "" }
+        { told = /^[a-z0-9_-]+: (usage|refused [A-Za-z]+|busy|socket|program|write|no memory|no shell|directory|record|thread|clock|signals)$/ ? $1 : "" }
         1'
 }
 
@@ -176,6 +176,6 @@ ask() {
     soon has_replies "$1" 1
 }
 
-for part in replay lives connections crowd endings handovers starts records scans waiting looking usage; do
+for part in replay lives connections crowd endings handovers starts records scans waiting looking faults usage checks; do
     . "$scripts/$part.sh"
 done

@@ -107,6 +107,15 @@ wrong_client list .web
 wrong_client follow --what
 wrong_client record now
 wrong_client record
+wrong_client svwait -t 100 nobody
+
+# Words that are empty, as an unset variable between quotes.
+wrong svscan '' b
+wrong svscan a ''
+wrong svscan a b ''
+wrong svcheck ''
+wrong connect ''
+wrong svstat '' -o up web
 
 # What the help texts say: where this changes, examples/manual.py is to be run, which makes the manual pages and the completion of them.
 texts() {

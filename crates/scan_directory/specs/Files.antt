@@ -25,3 +25,8 @@ content_of (reading.Text text) = Some text.items
 content_of reading.Unread = Some []
 content_of reading.Unknown = None
 content_of reading.NoMemory = None
+
+-- the text of a file, where it was read
+abbrev pub text_in : Reading → Option (List ℕ)
+text_in (reading.Text text) = Some text.items
+text_in other = None

@@ -1,27 +1,35 @@
 //! What a reading of a scan directory found.
 ghost use Rattle.std.specs.Prelude.{◌≡◌, ◌++◌, OnOk};
 ghost use Rattle.std.specs.List.{flat_map};
-ghost use Rattle.scan_directory.specs.Found.{fault_word, unread_line};
+ghost use Rattle.scan_directory.specs.Found.{fault_word, unread_line, note_line};
 
+use crate::dir_note::{DirNote, note_word};
 use s6_events::Name;
 use servicedir::DirFault;
 use std::alloc::{AllocError, Global};
 use tree_core::Listing;
 
-/// What is wrong in a service's directory.
+/// A service whose directory can't be used, and why: the answer to `states` has an `unread` line for it.
 #[derive(Clone, Copy, Debug, PartialEq, Eq)]
 pub struct Remark {
     pub name: Name,
     pub fault: DirFault,
-    /// Whether the directory can't be used: then the answer to `states` has an `unread` line for the service. Else the service runs all the same.
-    pub is_unread: bool,
 }
 
-/// What was found in a scan directory: its listing, and what is wrong, in the order read.
+/// A service that is supervised, and something in its directory that doesn't mean what its writer meant.
+#[derive(Clone, Copy, Debug, PartialEq, Eq)]
+pub struct Noted {
+    pub name: Name,
+    pub note: DirNote,
+}
+
+/// What was found in a scan directory: its listing, the directories that can't be used, and what is noted of the others, a service after the
+/// other. All are in the order read.
 #[derive(Drop)]
 pub struct Found {
     pub listing: Listing<Global>,
     pub remarks: Vec<Remark>,
+    pub notes: Vec<Noted>,
 }
 
 /// The word of a fault, as lines on standard error and `unread` lines have it.
@@ -57,4 +65,15 @@ pub fn push_all_unread(text: &mut Vec<u8>, unread: &[Remark]) -> Result<(), Allo
         push_unread(text, remark)?;
     }
     Ok(())
+}
+
+/// Adds the line of a note, as it is told on standard error.
+pub fn push_note_line(text: &mut Vec<u8>, noted: &Noted) -> Result<(), AllocError>
+    ensures { OnOk result (text.new.items ≡ text.old.items ++ note_line noted.now) }
+{
+    text.extend_from_slice(b"svscan: ")?;
+    text.extend_from_slice(noted.name.as_bytes())?;
+    text.extend_from_slice(b" ")?;
+    text.extend_from_slice(note_word(noted.note).as_bytes())?;
+    text.extend_from_slice(b"\n")
 }

@@ -6,9 +6,12 @@ ghost use Rattle.s6_replay.specs.Recording.{FitsLine};
 ghost use Rattle.servicedir.specs.ServiceName.{seen_of};
 ghost use Rattle.servicedir.specs.declared.service_name.Seen.TheVariants.{Bad};
 ghost use Rattle.scan_directory.specs.Names.{listed_names, service_in, AreListed, bad_name_lines, IsTold};
+ghost use Rattle.scan_directory.specs.Found.{note_line};
 ghost use Rattle.scan_directory.specs.Scanning.{scan_at, last_moment};
 
-use crate::found::{Found, Remark, fault_word};
+use crate::dir_note::DirNote;
+use crate::found::{Found, Noted, Remark, fault_word, push_note_line};
+use crate::noting::{note_service, push_note};
 use crate::service_files::ServiceFiles;
 use s6_events::{Actor, At, Name};
 use s6_replay::{SpellFault, write_input, write_whole};
@@ -24,15 +27,17 @@ use tree_core::{Entry, Listing, PlainAct, PlainInput};
 struct ReadEntries {
     entries: Vec<Entry>,
     remarks: Vec<Remark>,
+    notes: Vec<Noted>,
 }
 
 /// The last moment that an input can have, in milliseconds: no other takes more bytes in a script.
 const LAST_MOMENT: u64 = 1_000_000_000_000_000;
 
-/// Reads each entry of the directory whose name is that of a service, and lists it, even where its directory can't be used. A fault in a
-/// directory is told on `errors`, and so is a name that is no service's and doesn't begin with a dot, each by one write. A scan is recorded
-/// as one line of a script: a listing that is too long for such a line is told there too, and refused as `InvalidData`. Another error
-/// comes where memory is refused, or the directory can't be read. Page `s6-svscan`.
+/// Reads each entry of the directory whose name is that of a service, and lists it, even where its directory can't be used. That it can't is
+/// told on `errors`, and so is a name that is no service's and doesn't begin with a dot, each by one write. A scan is recorded
+/// as one line of a script: a listing that is too long for such a line is told there too, and refused as `InvalidData`. Of one that is taken,
+/// what is noted of the directories that can be used is told behind the rest. Another error comes where memory is refused, or the directory
+/// can't be read. Pages `s6-svscan` and `servicedir`.
 pub fn read_listing<R: Files + Copy + Drop, E: Write>(
     rt: &R,
     alloc: Global,
@@ -41,9 +46,20 @@ pub fn read_listing<R: Files + Copy + Drop, E: Write>(
 ) -> io::Result<Found>
     ensures fits { IfOk result (λ found. FitsLine (scan_at last_moment found.listing)) }
 {
-    let ReadEntries { entries, remarks } = read_entries(rt, alloc, directory, errors)?;
+    let ReadEntries {
+        entries,
+        remarks,
+        notes,
+    } = read_entries(rt, alloc, directory, errors)?;
     match listing_of(alloc, entries) {
-        Ok(listing) => Ok(Found { listing, remarks }),
+        Ok(listing) => {
+            tell_notes(alloc, notes.as_slice(), errors)?;
+            Ok(Found {
+                listing,
+                remarks,
+                notes,
+            })
+        }
         Err(error) => {
             if error.kind() == ErrorKind::InvalidData {
                 let _ = errors.write_all(
@@ -120,6 +136,7 @@ fn read_names<R: Files, N: BufRead + Drop, E: Write>(
     let mut read = ReadEntries {
         entries: Vec::new(alloc),
         remarks: Vec::new(alloc),
+        notes: Vec::new(alloc),
     };
     for name in names.split(alloc, 0) {
         let name = name?;
@@ -144,8 +161,16 @@ fn read_entry<R: Files, E: Write>(
 {
     match service_of(name) {
         Seen::Service(service) => {
-            // None where its directory can't be used. What is wrong there is added to `read.remarks`.
-            let config = read_service(rt, alloc, directory, service, &mut read.remarks, errors)?;
+            // None where its directory can't be used.
+            let config = read_service(
+                rt,
+                alloc,
+                directory,
+                service,
+                &mut read.remarks,
+                &mut read.notes,
+                errors,
+            )?;
             read.entries.push(Entry {
                 name: service,
                 config,
@@ -220,39 +245,36 @@ fn push_escaped_byte(line: &mut Vec<u8>, byte: u8) -> Result<(), AllocError>
     Ok(())
 }
 
-// The configuration of a service; None where its directory can't be used. What is wrong there is added to `remarks`, and told on `errors`. The
-// error says that memory was refused.
+// The configuration of a service; None where its directory can't be used: then why is added to `remarks`, and told on `errors`. What is noted of
+// one that can be used is added to `notes`. The error says that memory was refused.
 fn read_service<R: Files, E: Write>(
     rt: &R,
     alloc: Global,
     directory: &str,
     name: Name,
     remarks: &mut Vec<Remark>,
+    notes: &mut Vec<Noted>,
     errors: &mut E,
 ) -> Result<Option<Config>, AllocError> {
     // A name has ASCII characters alone, so the dash is never taken.
     let text = str::from_utf8(name.as_bytes()).unwrap_or("-");
     let path = format!(in alloc; "{directory}/{text}")?;
     let mut files = ServiceFiles::of(rt, alloc, path.as_str());
-    // `note` is a fault that doesn't keep the service from running.
-    let (config, fault) = match read(alloc, &mut files, name) {
-        Ok(found) => (Some(found.config), found.note),
-        Err(fault) => (None, Some(fault)),
-    };
-    if let Some(fault) = fault {
-        // The directory can't be used.
-        let is_unread = config.is_none();
-        remarks.push(Remark {
-            name,
-            fault,
-            is_unread,
-        })?;
-        tell_fault(alloc, text, fault, errors)?;
+    match read(alloc, &mut files, name) {
+        Ok(found) => {
+            push_note(notes, name, found.note.map(|_| DirNote::NotifyFd))?;
+            note_service(rt, alloc, path.as_str(), name, &files, notes)?;
+            Ok(Some(found.config))
+        }
+        Err(fault) => {
+            remarks.push(Remark { name, fault })?;
+            tell_fault(alloc, text, fault, errors)?;
+            Ok(None)
+        }
     }
-    Ok(config)
 }
 
-// Tells on `errors` by one line what is wrong in the directory of the service of this name. An error where memory for the line is refused.
+// Tells on `errors` by one line why the directory of the service of this name can't be used. An error where memory for the line is refused.
 fn tell_fault<E: Write>(
     alloc: Global,
     name: &str,
@@ -263,4 +285,31 @@ fn tell_fault<E: Write>(
     let line = format!(in alloc; "svscan: {name} {word}\n")?;
     let _ = errors.write_all(line.as_bytes());
     Ok(())
+}
+
+// Tells on `errors` what is noted, a line for each note. An error where memory for a line is refused.
+fn tell_notes<E: Write>(alloc: Global, notes: &[Noted], errors: &mut E) -> Result<(), AllocError> {
+    for noted in notes {
+        tell_note(alloc, noted, errors)?;
+    }
+    Ok(())
+}
+
+// Tells a note by one line.
+fn tell_note<E: Write>(alloc: Global, noted: &Noted, errors: &mut E) -> Result<(), AllocError>
+    ensures { OnOk result
+        (IsTold (E.contents errors.old) (E.contents errors.new) (note_line noted.now)) }
+{
+    let line = note_text(alloc, noted)?;
+    tell_whole(line.as_slice(), errors);
+    Ok(())
+}
+
+// The line of a note.
+fn note_text(alloc: Global, noted: &Noted) -> Result<Vec<u8>, AllocError>
+    ensures { IfOk result (λ line. line.items ≡ note_line noted.now) }
+{
+    let mut line = Vec::new(alloc);
+    push_note_line(&mut line, noted)?;
+    Ok(line)
 }

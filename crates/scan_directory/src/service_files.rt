@@ -2,7 +2,12 @@
 ghost use Rattle.std.specs.Prelude.{◌≡◌, ◌≤◌, Err, IfOk, IfSome, option_map, length};
 ghost use Rattle.servicedir.specs.Files.{Counts, CountsRefusal, reading_limit};
 ghost use Rattle.scan_directory.specs.Files.{found_of, content_of};
+ghost use Rattle.scan_directory.specs.TextNotes.{text_notes};
 
+use crate::dir_note::DirNote;
+use crate::text_notes::{
+    note_of_down_signal, note_of_max_death_tally, note_of_timeout_finish, note_of_timeout_kill,
+};
 use s6_events::Name;
 use servicedir::{ReadFault, ServiceFile};
 use std::alloc::{Allocator, Global};
@@ -71,8 +76,20 @@ impl ServiceFiles {
         }
     }
 
-    // What reading this file of the service directory gave.
-    fn found(&self, file: ServiceFile) -> &Reading
+    /// What is noted of the files whose texts are read, but for `notification-fd`: that one `servicedir::read` notes.
+    pub fn text_notes(&self) -> [Option<DirNote>; 4]
+        ensures { result ≡ text_notes self.now }
+    {
+        [
+            note_of_timeout_kill(&self.timeout_kill),
+            note_of_timeout_finish(&self.timeout_finish),
+            note_of_max_death_tally(&self.max_death_tally),
+            note_of_down_signal(&self.down_signal),
+        ]
+    }
+
+    /// What reading this file of the service directory gave.
+    pub fn found(&self, file: ServiceFile) -> &Reading
         ensures { result.now ≡ found_of self.now file }
     {
         match file {

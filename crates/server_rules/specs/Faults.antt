@@ -4,6 +4,7 @@ use Rattle.server_rules.specs.declared.serve_fault.ServeFault.{ServeFault}
 use Rattle.server_rules.specs.declared.serve_fault.ServeFault.TheVariants as fault
 
 abbrev pub fault_text : ServeFault → List ℕ
+fault_text fault.Signals = codes "svscan: signals\n"
 fault_text fault.Shell = codes "svscan: no shell\n"
 fault_text fault.Socket = codes "svscan: socket\n"
 fault_text fault.Directory = codes "svscan: directory\n"

@@ -17,3 +17,4 @@ pub mod States
 pub mod Status
 pub mod StatusAge
 pub mod StepNotes
+pub mod UnwantedStarts

@@ -86,7 +86,7 @@ impl Carrying {
 }
 
 /// What a round has found. `is_open`: the run took inputs. `is_full`: a ring was full before all reports were handed in. `has_more`: a
-/// connection has more to begin. `due`: the next moment to which a timer or a deadline is set.
+/// connection has more to begin, or waits for a scan that can begin. `due`: the next moment to which a timer or a deadline is set.
 #[derive(Drop)]
 pub struct Round {
     /// The moment at which it began, in milliseconds.
@@ -95,7 +95,7 @@ pub struct Round {
     pub is_open: bool,
     /// Whether a ring was full before all reports were handed in.
     pub is_full: bool,
-    /// Whether a connection has more to begin.
+    /// Whether a connection has more to begin, or waits for a scan that can begin.
     pub has_more: bool,
     /// Why it made no further step.
     pub halt: Halt,

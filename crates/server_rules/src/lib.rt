@@ -25,6 +25,7 @@ mod status_lines;
 mod step_notes;
 mod texts;
 mod todo;
+mod unwanted_starts;
 
 pub use abandoned_socket::{FileIdentity, says_abandoned};
 pub use connection::Connection;
@@ -50,3 +51,4 @@ pub use status_lines::Subject;
 pub use step_notes::StepNotes;
 pub use texts::{clock_line, following_line, news_lines, recorded_line, reply_lines, serving_line};
 pub use todo::{Answer, News, Todo};
+pub use unwanted_starts::take_down;

@@ -18,7 +18,7 @@ pub enum OwnAnswer {
     NoMemory,
     /// The scan directory could not be read, or a line of a script can't say what is in it.
     Directory,
-    /// The tree is run without a record.
+    /// The tree is run without a record, or the file was removed.
     Record,
 }
 

@@ -13,6 +13,8 @@ const SYSTEM_STATUS: u8 = 111;
 /// Why a tree did not run to its end.
 #[derive(Clone, Copy, Debug, PartialEq, Eq)]
 pub enum ServeFault {
+    /// SIGCHLD is ignored, so that no end of a service could be seen.
+    Signals,
     /// The shell that sends signals can't be run.
     Shell,
     /// The socket could not be made, or a server answers there.
@@ -41,6 +43,7 @@ fn text_of(fault: ServeFault) -> &'static [u8]
     ensures { result.now ≡ fault_text fault }
 {
     match fault {
+        ServeFault::Signals => b"svscan: signals\n",
         ServeFault::Shell => b"svscan: no shell\n",
         ServeFault::Socket => b"svscan: socket\n",
         ServeFault::Directory => b"svscan: directory\n",

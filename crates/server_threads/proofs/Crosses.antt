@@ -6,6 +6,7 @@ use Rattle.std.proofs.Crossing.{crosses}
 use Rattle.std.proofs.option.Option.TheSendSync as option
 use Rattle.event_directory.proofs.Crosses.{pattern_send}
 use Rattle.child_runner.proofs.bell.Bell.TheSendSync as bell
+use Rattle.child_runner.proofs.Crosses.{link_send, link_sync}
 use Rattle.line_server.proofs.server.Server.TheSendSync as server
 use Rattle.line_server.specs.contracts.server.Server as Server
 use Rattle.server_rules.specs.contracts.requests.Request as Request
@@ -46,7 +47,13 @@ shared_sync =
           search (caller_sync, crosses, sendable) depth 60 fits 20000,
           (
             search (desk.the_field_sync, crosses, sendable) depth 60 fits 20000,
-            (search (crosses, sendable) depth 60 fits 20000, (search (bell.the_field_sync, crosses, sendable) depth 60 fits 20000, tt)),
+            (
+              search (crosses, sendable) depth 60 fits 20000,
+              (
+                search (link_send, link_sync, crosses, sendable) depth 60 fits 20000,
+                (search (bell.the_field_sync, crosses, sendable) depth 60 fits 20000, tt),
+              ),
+            ),
           ),
         ),
       ),

@@ -43,8 +43,14 @@ fn read_scan<R: Files + Copy + Drop, E: Write>(
         Err(error) => match error.kind() {
             // Memory for the listing was refused.
             ErrorKind::OutOfMemory => Err(OwnAnswer::NoMemory),
-            // The directory could not be read, or its listing is too long for a line of a script.
-            _ => Err(OwnAnswer::Directory),
+            // Its listing is too long for a line of a script, which is told already.
+            ErrorKind::InvalidData => Err(OwnAnswer::Directory),
+            _ => {
+                let _ = errors.write_all(
+                    b"svscan: the directory can't be read: nothing was scanned\n",
+                );
+                Err(OwnAnswer::Directory)
+            }
         },
     }
 }

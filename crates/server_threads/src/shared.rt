@@ -2,12 +2,13 @@
 use crate::caller::Caller;
 use crate::clock::ServerClock;
 use crate::scan_desk::ScanDesk;
-use child_runner::Bell;
+use child_runner::{Bell, LaneLink, Unwanted};
 use line_server::{Answers, Mailbox, Next};
-use server_rules::{OwnAnswer, Request, RowCache, Subject, client_actor, read_request};
+use server_rules::{OwnAnswer, Request, RowCache, Subject, client_actor, read_request, take_down};
 use std::alloc::Global;
-use std::sync::Wait;
+use std::sync::{Arc, Wait};
 use std::time::Clock;
+use tree_core::{Act, ScanOrder};
 
 /// What the threads of a running tree share, from its first run to its last: each connection's requests, the scans that are asked for, the rows
 /// that were last read of the board, and the bell of the driver.
@@ -19,6 +20,8 @@ pub struct Shared {
     pub callers: Vec<Caller>,
     pub scans: ScanDesk,
     pub rows: RowCache,
+    /// For each lane the way to the thread that starts and signals its services.
+    pub lanes: Vec<Arc<LaneLink, Global>>,
     /// The driver's bell. It is rung when a connection waits for answers or leaves, when a listing was read, and when a lane has a report,
     /// or room for orders again.
     pub driver: Bell,
@@ -70,6 +73,24 @@ impl Answers for Shared {
 }
 
 impl Shared {
+    /// Notes that this act was handed in: where it takes services down, those of their starts end that are tried again.
+    pub fn note_act<R: Wait>(&self, rt: &R, act: &Act<Global>) {
+        match act {
+            Act::Svc(name, letters) if take_down(letters.as_slice()) => {
+                self.end_starts(rt, &Unwanted::Service(*name));
+            }
+            Act::Scanctl(ScanOrder::Terminate) => self.end_starts(rt, &Unwanted::All),
+            _ => {}
+        }
+    }
+
+    // Says to the thread of each lane that starts are wanted no more.
+    fn end_starts<R: Wait>(&self, rt: &R, unwanted: &Unwanted) {
+        for lane in &self.lanes {
+            lane.end_starts(rt, *unwanted);
+        }
+    }
+
     // Answers a request that doesn't need the driver: a status, if the rows that were last read are fresh, or a line that is refused. False for
     // any other request, and while an earlier one is not answered.
     fn is_answered_at_once<R: Wait + Clock>(

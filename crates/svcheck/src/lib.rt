@@ -2,6 +2,7 @@
 #![tactic(auto)]
 
 mod lines;
+mod note_sentences;
 mod sentences;
 
-pub use lines::{Checked, checked_entries, push_bad_names, push_unexecutable};
+pub use lines::{Checked, checked_entries, push_bad_names};

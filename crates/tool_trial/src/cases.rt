@@ -50,7 +50,9 @@ ftrig-wait web/event u.*u
 ftrig-wait queue b$
 permafailon web 60 3 1-2,KILL
 permafailon web 60 3 none
-permafailon log 60 3 1";
+permafailon log 60 3 1
+svstat -o up late
+svc -u late";
 
 /// Runs a server on this path and each client beside it. The outcomes are written line by line.
 pub fn try_all<R: Net + Files + Processes + Threads + Wait + Clock + Sync>(
@@ -147,7 +149,7 @@ fn start_server<'s, E, R: Threads + Wait + Clock + Sync>(
     server: &'s Server<TableServer>,
 ) -> bool {
     thread::Builder::new()
-        .spawn_scoped(scope, move || serve(rt, server))
+        .spawn_scoped(scope, move || serve(rt, server, &mut io::sink(), b""))
         .is_ok()
 }
 

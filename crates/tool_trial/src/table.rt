@@ -1,6 +1,7 @@
 //! Who answers the requests of the trial: each request of the table has its lines, and another one is refused.
 use line_server::{Answers, Mailbox, Next};
 use std::sync::Wait;
+use std::sync::atomic::{AtomicBool, Ordering};
 use std::time::Clock;
 
 /// The requests, each before the lines that answer it.
@@ -26,7 +27,13 @@ unread broken NoRun\n\n\
 #send svc web a=refused Reserved\n\n\
 #subscribe dir queue once b$=sub 1\n\nm 1 b\n\n\
 #subscribe svc web once u.*u=sub 2\n\nm 2 overlong\n\n\
-#permafailon web 60 3 1-2,SIGKILL=permafail 125\n\n";
+#permafailon web 60 3 1-2,SIGKILL=permafail 125\n\n\
+#status late=row 3 late true true true false false 7 -1 -1 1 -1\n\n";
+
+/// The requests at which the connection ends without an answer: the first only the first time that it comes.
+const ENDS_ONCE: &[u8] = b"status late";
+
+const ENDS_ALWAYS: &[u8] = b"svc late u";
 
 // The lines that answer a request.
 fn lines_of(request: &[u8]) -> &'static [u8] {
@@ -40,13 +47,24 @@ fn lines_of(request: &[u8]) -> &'static [u8] {
     b"refused Line\n\n"
 }
 
-/// Answers by the table.
+/// Answers by the table. Its connections count as waiting, so that none of them makes way for another.
 #[derive(Drop)]
-pub struct TableServer {}
+pub struct TableServer {
+    // Whether a connection has ended at `ENDS_ONCE`.
+    has_ended: AtomicBool,
+}
 
 impl TableServer {
     pub fn new() -> TableServer {
-        TableServer {}
+        TableServer {
+            has_ended: AtomicBool::new(false),
+        }
+    }
+
+    // Whether the connection ends at this request, without an answer.
+    fn ends_at(&self, request: &[u8]) -> bool {
+        request == ENDS_ALWAYS
+            || (request == ENDS_ONCE && !self.has_ended.swap(true, Ordering::SeqCst))
     }
 }
 
@@ -58,6 +76,9 @@ impl Answers for TableServer {
         line: &[u8],
         mailbox: &Mailbox,
     ) -> Next {
+        if self.ends_at(line) {
+            return Next::Close;
+        }
         let _ = mailbox.post(rt, lines_of(line));
         Next::GoOn
     }
@@ -69,7 +90,7 @@ impl Answers for TableServer {
     fn settle<R: Wait>(&self, _rt: &R, _seat: usize) {}
 
     fn keeps<R: Wait>(&self, _rt: &R, _seat: usize) -> bool {
-        false
+        true
     }
 
     fn leave<R: Wait>(&self, _rt: &R, _seat: usize) {}

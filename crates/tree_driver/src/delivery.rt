@@ -155,8 +155,12 @@ fn note_scanner<C: Channels + Lanes, R: Wait>(
     // No scan is handed in and unanswered any more.
     state.scan = None;
     let lasting = &mut *state.lasting;
-    // Requests of connections are begun only once the first scan is answered, as it is now.
-    lasting.awaits_first = false;
+    if lasting.awaits_first {
+        // Requests of connections are begun only once the first scan is answered, as it is now. Those that rang before are looked for in one more
+        // round.
+        lasting.awaits_first = false;
+        context.shared().driver.ring(context.rt);
+    }
     // Answers to `states` tell of these directories, which could not be used.
     let unread = mem::replace(&mut lasting.unread, Vec::new(context.alloc()));
     context.shared().rows.set_unread(context.rt, unread);

@@ -163,13 +163,16 @@ impl<'a, C: Channels + Lanes> DriverState<'a, C> {
         };
         // The number of this scan among the inputs of the scanner, counted from 1.
         let number = seat.sent().saturating_add(1);
-        let Found { listing, remarks } = found;
+        // What is noted was told when the directory was read.
+        let Found {
+            listing,
+            remarks,
+            ..
+        } = found;
         let is_taken = self.hand_in(SCANNER, now, Act::Scan(listing)).is_ok();
         if is_taken {
             self.scan = Some(number);
             self.lasting.unread = remarks;
-            // The other remarks are about services that can run all the same.
-            self.lasting.unread.retain(|remark| remark.is_unread);
         }
         is_taken
     }

@@ -83,7 +83,8 @@ pub fn round_after<C: Channels + Lanes, D: Board<C>, B: Backend, R: Wait>(
         moment: now,
         is_open,
         is_full,
-        has_more: state.lasting.clients.has_more_to_begin(),
+        // A scan that was called for while another one was under way begins in the next round: nobody rings for it.
+        has_more: state.lasting.clients.has_more_to_begin() || state.lasting.plans.is_called(),
         halt,
         has_ended: is_idle && office.ended(context.rt, &mut state.known),
         carrying,

@@ -6,7 +6,7 @@ use crate::runs::{RunSettings, refuse_and_wait};
 use channel_names::Channels;
 use office::Office;
 use order_lanes::{Backend, Lanes};
-use run_recorder::{RecordFault, Recorder};
+use run_recorder::{RecordFault, RecordWriter, Recorder};
 use server_rules::{RunEnd, ServeFault};
 use server_threads::Context;
 use status_board::Board;
@@ -21,7 +21,7 @@ pub(crate) fn drive_to_end<
     D: Board<C>,
     B: Backend,
     R: Wait + Clock,
-    W: Write + Drop,
+    W: RecordWriter + Drop,
     E: Write,
 >(
     context: &Context<'_, R>,
@@ -50,7 +50,7 @@ pub(crate) fn drive_to_end<
 
 // Records the run, and tells the connections that wait for it, which `context` reaches. Where memory is refused it is tried again; what
 // connections ask meanwhile is refused. `Record` where the run can't be written. `state.known` is for proofs alone.
-fn record<C: Channels + Lanes, D: Board<C>, B: Backend, R: Wait + Clock, W: Write + Drop>(
+fn record<C: Channels + Lanes, D: Board<C>, B: Backend, R: Wait + Clock, W: RecordWriter + Drop>(
     context: &Context<'_, R>,
     office: &Office<C, D, B>,
     state: &mut DriverState<'_, C>,
@@ -59,9 +59,14 @@ fn record<C: Channels + Lanes, D: Board<C>, B: Backend, R: Wait + Clock, W: Writ
     for _ in context.rt.forever() {
         match recorder.append(context.rt, office, &mut state.known) {
             Ok(()) => {
-                // How many steps the whole record has now: that is told to those who wait.
-                let steps = recorder.steps();
-                state.lasting.clients.tell_recorded(context, steps);
+                let clients = &mut state.lasting.clients;
+                if recorder.is_removed() {
+                    // Nobody could read it.
+                    clients.refuse_record(context);
+                } else {
+                    // How many steps the whole record has now: that is told to those who wait.
+                    clients.tell_recorded(context, recorder.steps());
+                }
                 return Ok(());
             }
             Err(RecordFault::Write) => break,

@@ -11,7 +11,7 @@ use locked_services::Closed;
 use log::{Log, info};
 use office::{NewOffice, Office, OpenFault, Opened};
 use order_lanes::{Backend, Lanes};
-use run_recorder::Recorder;
+use run_recorder::{RecordWriter, Recorder};
 use scan_directory::Found;
 use server_rules::{ACTOR_COUNT, Pace, RETRY_WAIT, ServeFault};
 use server_threads::Context;
@@ -50,7 +50,7 @@ enum AfterRun<B: Drop> {
 }
 
 /// Runs a tree from its first scan to its end, one run after the other. Each new run is noted by `log`.
-pub fn run_all<B: Backend, R: Wait + Clock + Copy + Drop, W: Write + Drop, E: Write, L: Log>(
+pub fn run_all<B: Backend, R: Wait + Clock + Copy + Drop, W: RecordWriter + Drop, E: Write, L: Log>(
     context: &Context<'_, R>,
     settings: &mut RunSettings<W>,
     errors: &mut E,
@@ -81,7 +81,7 @@ fn first_tree<B: Drop>(alloc: Global, backends: Vec<B>) -> Option<Between<B>> {
 }
 
 // Makes one run, of the tree in `between`, where it leaves what the next run begins with. Returns how the tree has ended; None where it goes on.
-fn run_next<B: Backend, R: Wait + Clock + Copy + Drop, W: Write + Drop, E: Write, L: Log>(
+fn run_next<B: Backend, R: Wait + Clock + Copy + Drop, W: RecordWriter + Drop, E: Write, L: Log>(
     context: &Context<'_, R>,
     settings: &mut RunSettings<W>,
     errors: &mut E,
@@ -109,7 +109,7 @@ fn run_next<B: Backend, R: Wait + Clock + Copy + Drop, W: Write + Drop, E: Write
 }
 
 // Makes a new office of the tree, and runs it.
-fn run_once<B: Backend, R: Wait + Clock + Copy + Drop, W: Write + Drop, E: Write>(
+fn run_once<B: Backend, R: Wait + Clock + Copy + Drop, W: RecordWriter + Drop, E: Write>(
     context: &Context<'_, R>,
     settings: &mut RunSettings<W>,
     errors: &mut E,
@@ -160,7 +160,7 @@ fn run_named<
     B: Backend,
     C: Channels + Lanes,
     R: Wait + Clock + Copy + Drop,
-    W: Write + Drop,
+    W: RecordWriter + Drop,
     E: Write,
 >(
     context: &Context<'_, R>,
@@ -191,7 +191,7 @@ fn run_opened<
     D: Board<C>,
     B: Backend,
     R: Wait + Clock,
-    W: Write + Drop,
+    W: RecordWriter + Drop,
     E: Write,
 >(
     context: &Context<'_, R>,
@@ -225,7 +225,7 @@ fn run_opened<
 
 // Takes the memory that recording and closing a run need, and tries again until there is some; what connections ask meanwhile is refused.
 // Returns an empty list with room for what each seat gives when it is finished at the end of the run.
-fn take_memory<C: Channels, R: Wait + Clock, W: Write + Drop>(
+fn take_memory<C: Channels, R: Wait + Clock, W: RecordWriter + Drop>(
     context: &Context<'_, R>,
     lasting: &mut Lasting,
     recorder: &mut Recorder<W>,

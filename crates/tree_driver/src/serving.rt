@@ -38,14 +38,14 @@ fn begin_some<C: Channels + Lanes, R: Wait>(
 ) {
     // An act that the ring did not take before goes first.
     if let Some(act) = state.lasting.clients.take_held(seat) {
-        if !is_submitted(state, seat, now, act) {
+        if !is_submitted(context, state, seat, now, act) {
             return;
         }
     }
     for _ in 0..TURN {
         match state.lasting.clients.begin(seat, now) {
             Todo::Submit(act) => {
-                if is_submitted(state, seat, now, act) {
+                if is_submitted(context, state, seat, now, act) {
                     continue;
                 }
             }
@@ -70,13 +70,15 @@ fn begin_some<C: Channels + Lanes, R: Wait>(
     }
 }
 
-// Hands in an act for the connection on this seat. False where its ring doesn't take it: then it is kept.
-fn is_submitted<C: Channels + Lanes>(
+// Hands in an act for the connection on this seat, and notes whose starts it makes unwanted. False where its ring doesn't take it: then it is kept.
+fn is_submitted<C: Channels + Lanes, R: Wait>(
+    context: &Context<'_, R>,
     state: &mut DriverState<'_, C>,
     seat: usize,
     now: u64,
     act: Act<Global>,
 ) -> bool {
+    context.shared().note_act(context.rt, &act);
     // The connection on seat 0 is the actor `FIRST_CLIENT`, and the others follow.
     match state.hand_in(FIRST_CLIENT.saturating_add(seat), now, act) {
         Ok(()) => true,

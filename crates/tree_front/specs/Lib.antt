@@ -1,3 +1,4 @@
 pub mod NoMemory
 pub mod SocketTrouble
 pub mod Usage
+pub mod IgnoredSignals

@@ -15,6 +15,7 @@ trouble_before trouble.Folder = codes "no socket can be made in the folder of "
 
 -- the words before the path
 abbrev pub before_of : ServeFault → Trouble → List ℕ
+before_of fault.Signals t = codes "CHLD is ignored, so no end of a service could be seen; start it by: env --default-signal=CHLD"
 before_of fault.Shell t = codes "/bin/sh can't be run, by which signals are sent"
 before_of fault.Socket t = trouble_before t
 before_of fault.Directory t = codes "can't be read, or has too much in it for a line of a script: "

@@ -1,5 +1,5 @@
 -- What is told of wrong words behind the name of a program.
-use Rattle.std.specs.Prelude.{ℕ, List, [], ◌∷◌, ◌++◌, Option, codes}
+use Rattle.std.specs.Prelude.{ℕ, List, [], ◌∷◌, ◌++◌, Option, Some, codes}
 use Rattle.s6_tools.specs.declared.misuse.Misuse.{Misuse}
 use Rattle.s6_tools.specs.declared.misuse.Misuse.TheVariants as misuse
 use Rattle.s6_tools.specs.Sentences.{help_words, misuse_word, see_words}
@@ -7,13 +7,19 @@ use Rattle.s6_tools.specs.Told.{named}
 
 abbrev pub complaint_of : Misuse → List ℕ
 complaint_of misuse.Missing = codes " is missing"
+complaint_of misuse.Empty = codes " is empty"
 complaint_of m = codes " is one too many"
+
+-- the wrong word; of one that is empty its place is told
+abbrev pub word_text : Misuse → Option (List ℕ) → List ℕ
+word_text misuse.Empty (Some place) = place
+word_text m word = named (codes "a word") word
 
 abbrev pub program_text : List ℕ → List ℕ
 program_text program = program ++ (codes ": usage\n" ++ (program ++ codes ": "))
 
 abbrev pub complaint_text : Misuse → Option (List ℕ) → List ℕ
-complaint_text m word = misuse_word m ++ (codes ": " ++ (named (codes "a word") word ++ complaint_of m))
+complaint_text m word = misuse_word m ++ (codes ": " ++ (word_text m word ++ complaint_of m))
 
 abbrev pub advice_text : List ℕ → List ℕ → List ℕ
 advice_text program form = codes ": " ++ (form ++ (see_words ++ (program ++ (help_words ++ 10 ∷ []))))

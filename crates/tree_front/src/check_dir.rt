@@ -1,18 +1,15 @@
 //! `svcheck`: what svscan would do with each entry of a scan directory. It starts nothing.
 use crate::no_memory::tell_no_memory;
-use s6_events::Name;
 use s6_tools::{Told, add_escaped};
 use scan_directory::{Found, read_listing};
 use std::alloc::{AllocError, Global};
-use std::fs;
 use std::io::{self, Write};
-use std::os::unix::fs::PermissionsExt;
 use std::rt::Files;
-use svcheck::{checked_entries, push_bad_names, push_unexecutable};
+use svcheck::{checked_entries, push_bad_names};
 use svscan_core::Entry;
 
-/// The status where something is refused, or a program can't be started.
-const REFUSED_STATUS: u8 = 1;
+/// The status where something is refused, or noted.
+const WRONG_STATUS: u8 = 1;
 
 /// The status of a program to which the system refused something.
 const SYSTEM_STATUS: u8 = 111;
@@ -20,8 +17,8 @@ const SYSTEM_STATUS: u8 = 111;
 /// How many bytes of a path are told.
 const PATH_BYTES: usize = 107;
 
-/// Reads a scan directory, and says of each entry what svscan would do. The exit status: 0 where nothing is refused and all can be started,
-/// else 1; 111 where the directory can't be read, memory is refused, or the report can't be written.
+/// Reads a scan directory, and says of each entry what svscan would do. The exit status: 0 where nothing is refused and nothing noted, so that
+/// all runs as it is written, else 1; 111 where the directory can't be read, memory is refused, or the report can't be written.
 pub fn check_directory<R: Files + Copy + Drop, W: Write, E: Write>(
     rt: &R,
     alloc: Global,
@@ -30,7 +27,7 @@ pub fn check_directory<R: Files + Copy + Drop, W: Write, E: Write>(
     errors: &mut E,
 ) -> u8 {
     match report_of(rt, alloc, directory) {
-        Ok((text, is_refused)) => print_report(text.as_slice(), is_refused, output, errors),
+        Ok((text, is_wrong)) => print_report(text.as_slice(), is_wrong, output, errors),
         Err(error) => match error.kind() {
             io::ErrorKind::OutOfMemory => tell_no_memory("svcheck", errors),
             io::ErrorKind::InvalidData => tell_directory(
@@ -43,7 +40,7 @@ pub fn check_directory<R: Files + Copy + Drop, W: Write, E: Write>(
     }
 }
 
-// The report on all entries, and whether something is refused or can't be started. The error is `OutOfMemory` where memory is refused,
+// The report on all entries, and whether something is refused or noted. The error is `OutOfMemory` where memory is refused,
 // `InvalidData` where a line of a script can't say what is in the directory, and another where the directory can't be read.
 fn report_of<R: Files + Copy + Drop>(
     rt: &R,
@@ -51,75 +48,22 @@ fn report_of<R: Files + Copy + Drop>(
     directory: &str,
 ) -> io::Result<(Vec<u8>, bool)> {
     let mut told = Vec::new(alloc);
-    // `told` gets what svscan would write on standard error; only the bad names are taken from it. A remark is a fault of a service's directory.
-    let Found { listing, remarks } = read_listing(rt, alloc, directory, &mut told)?;
+    // `told` gets what svscan would write on standard error; only the bad names are taken from it. A remark says why a directory can't be used.
+    let Found {
+        listing,
+        remarks,
+        notes,
+    } = read_listing(rt, alloc, directory, &mut told)?;
     let entries = sorted_entries(alloc, listing.entries())?;
-    let mut checked = checked_entries(alloc, remarks.as_slice(), entries.as_slice())?;
+    let mut checked = checked_entries(
+        alloc,
+        remarks.as_slice(),
+        notes.as_slice(),
+        entries.as_slice(),
+    )?;
     // Whether a name is no name of a service.
     let is_bad = push_bad_names(&mut checked.text, told.as_slice())?;
-    // Whether a program of a service can't be started.
-    let is_idle = add_unexecutable(rt, alloc, directory, entries.as_slice(), &mut checked.text)?;
-    Ok((checked.text, checked.is_refused || is_bad || is_idle))
-}
-
-// Adds a line for each program of these services that nobody may execute. Whether there was one.
-fn add_unexecutable<R: Files>(
-    rt: &R,
-    alloc: Global,
-    directory: &str,
-    entries: &[Entry],
-    text: &mut Vec<u8>,
-) -> io::Result<bool> {
-    let mut is_there = false;
-    for entry in entries {
-        is_there = add_programs(rt, alloc, directory, entry, text)? || is_there;
-    }
-    Ok(is_there)
-}
-
-// Adds a line for each program of this service that nobody may execute. Whether there was one.
-fn add_programs<R: Files>(
-    rt: &R,
-    alloc: Global,
-    directory: &str,
-    entry: &Entry,
-    text: &mut Vec<u8>,
-) -> io::Result<bool> {
-    // The directory of this service can't be used: the report says so already.
-    let Some(config) = entry.config else {
-        return Ok(false);
-    };
-    let has_told_of_run = add_program(rt, alloc, directory, entry.name, "run", text)?;
-    let has_told_of_finish = config.finish
-        && add_program(rt, alloc, directory, entry.name, "finish", text)?;
-    Ok(has_told_of_run || has_told_of_finish)
-}
-
-// Adds a line for this program of a service, where nobody may execute it. Returns whether it added one.
-fn add_program<R: Files>(
-    rt: &R,
-    alloc: Global,
-    directory: &str,
-    name: Name,
-    file: &str,
-    text: &mut Vec<u8>,
-) -> io::Result<bool> {
-    // The name of a service is ASCII, so it is always a text.
-    let service = str::from_utf8(name.as_bytes()).unwrap_or("-");
-    let path = format!(in alloc; "{directory}/{service}/{file}")?;
-    if is_executable(rt, path.as_str()) {
-        return Ok(false);
-    }
-    push_unexecutable(text, name, file)?;
-    Ok(true)
-}
-
-// Whether somebody may execute the file at this path; true also where that can't be seen.
-fn is_executable<R: Files>(rt: &R, path: &str) -> bool {
-    match fs::metadata(rt, path) {
-        Ok(found) => found.permissions().mode() & 0o111 != 0,
-        Err(_) => true,
-    }
+    Ok((checked.text, checked.is_wrong || is_bad))
 }
 
 // The entries sorted by name, as svscan takes them.
@@ -129,11 +73,11 @@ fn sorted_entries(alloc: Global, entries: &[Entry]) -> Result<Vec<Entry>, AllocE
     Ok(sorted)
 }
 
-// Prints the report of `svcheck`. The exit status: 1 where `is_refused`, so something is refused or can't be started, else 0; 111 where the
-// report can't be written, which is told on `errors`.
+// Prints the report of `svcheck`. The exit status: 1 where `is_wrong`, so something is refused or noted, else 0; 111 where the report can't be
+// written, which is told on `errors`.
 fn print_report<W: Write, E: Write>(
     text: &[u8],
-    is_refused: bool,
+    is_wrong: bool,
     output: &mut W,
     errors: &mut E,
 ) -> u8 {
@@ -143,7 +87,7 @@ fn print_report<W: Write, E: Write>(
             errors,
         );
     }
-    if is_refused { REFUSED_STATUS } else { 0 }
+    if is_wrong { WRONG_STATUS } else { 0 }
 }
 
 // Writes the lines about a failure of `svcheck` on `errors`, by one write. The exit status, 111.

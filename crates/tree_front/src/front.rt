@@ -179,6 +179,13 @@ fn run_check<R: Files + Copy + Drop, W: Write, E: Write>(
 ) -> u8 {
     match words {
         [word] if asks_help(word) => print_help("svcheck", SVCHECK_HELP.as_bytes(), output, errors),
+        [""] => refuse_words(
+            "svcheck",
+            Misuse::Empty,
+            Some("DIRECTORY"),
+            SVCHECK_FORM,
+            errors,
+        ),
         [directory] => check_directory(rt, alloc, directory, output, errors),
         [] => refuse_words("svcheck", Misuse::Missing, None, SVCHECK_FORM, errors),
         [_, word, ..] => refuse_words(
@@ -202,6 +209,9 @@ fn read_place<W: Write, E: Write>(words: Vec<String>, output: &mut W, errors: &m
             return Asked::Done(refuse_words("svscan", Misuse::TooMany, word, SVSCAN_FORM, errors));
         }
         _ => {}
+    }
+    if let Some(place) = empty_place(words.as_slice()) {
+        return Asked::Done(refuse_words("svscan", Misuse::Empty, Some(place), SVSCAN_FORM, errors));
     }
     match place_of(words) {
         Some(place) => Asked::Tree(place),
@@ -231,10 +241,25 @@ fn read_socket<W: Write, E: Write>(words: Vec<String>, output: &mut W, errors: &
     }
     let mut words = words;
     match words.pop() {
+        Some(socket) if words.len() == 2 && socket.is_empty() => Asked::Done(refuse_words(
+            "connect",
+            Misuse::Empty,
+            Some("SOCKET"),
+            CONNECT_FORM,
+            errors,
+        )),
         Some(socket) if words.len() == 2 => Asked::Connect(socket),
         // Too many words were refused above, so the socket is missing.
         _ => Asked::Done(refuse_words("connect", Misuse::Missing, None, CONNECT_FORM, errors)),
     }
+}
+
+// The name of the first of these words that is empty: an unset variable between quotes would else name the root of the file system. None where none
+// is. The first two of `words` are the program's name and `svscan`.
+fn empty_place(words: &[String]) -> Option<&'static str> {
+    let places = ["DIRECTORY", "SOCKET", "RECORD"];
+    let empty = words.iter().skip(2).position(|word| word.is_empty())?;
+    places.get(empty).copied()
 }
 
 // The scan directory, the socket and the record; None where the words are too few or too many. The first two of `words` are the program's name

@@ -16,8 +16,8 @@ limits:
   A tree has at most 256 services. A name has 1 to 64 of A-Z a-z 0-9 . _ -
   @, and no dot in front: what has one there is passed over. SOCKET has at
   most 101 bytes: it is made in SOCKET.new, a folder that is gone
-  afterwards. Eleven clients may be connected, and one more is told busy;
-  ten of them may wait. A new run of the same tree goes on after 260,000
+  afterwards. Eleven clients may be connected, and ten of them wait; for
+  one more an idle one makes way, or it is told busy. A new run of the same tree goes on after 260,000
   steps; each is told of on standard error.
 
 environment:
@@ -32,7 +32,9 @@ A signal ends it at once, and its services live on: send none.
 exit status, and the line on standard error:
   0           the tree has ended
   100         svscan: usage
-  111         svscan: no shell     /bin/sh can't be run: no service could
+  111         svscan: signals      CHLD is ignored: no end of a service
+                                   could be seen
+              svscan: no shell     /bin/sh can't be run: no service could
                                    be signalled
               svscan: socket       there is a server, or one starts just
                                    now, or no socket could be made
@@ -43,10 +45,11 @@ exit status, and the line on standard error:
               svscan: clock
               svscan: full
               svscan: close        a run could not go over into the next
-              svscan: record       RECORD could not be made or written, is
-                                   no regular file, or is used by another
-                                   server. Services were ended in order
-                                   first, in ten seconds at most
+              svscan: record       RECORD could not be made or written, as
+                                   on a full disk, is no regular file, or
+                                   is used by another server. Services
+                                   were ended in order first, in ten
+                                   seconds at most
 ";
 
 /// What `svcheck --help` prints.
@@ -59,23 +62,28 @@ lines:
   NAME: supervised, ..          whether it starts at once, on which
                                 descriptor it tells its readiness, and
                                 whether it has a finish
-  NAME: noted FAULT: .., ..     the same, but for this
+  NAME: noted NOTE: ..          a file doesn't mean what it says, and what
+                                it means: a line each
   NAME: refused FAULT: ..       it is not supervised
-  NAME: its run can't be started: nobody may execute it
-  NAME: its finish can't be started: nobody may execute it
 
 faults:
   NoRun       there is no file run in its directory
   NotLongrun  its file type says something else than longrun
-  NotifyFd    its notification-fd names none of 1 and 3 to 9: it runs, and
-              tells no readiness
   Io          it is no directory, or a file in it can't be read
   BadName     a name has 1 to 64 of A-Z a-z 0-9 . _ - @, no dot in front
   full        there are more than 256 services
 
+notes:
+  NotifyFd TimeoutKill TimeoutFinish MaxDeathTally DownSignal
+              what the file of this name says can't be taken
+  RunMode RunFile RunInterpreter FinishMode FinishFile FinishInterpreter
+              the program can't be started, or not as it is written
+  Log LockFd NewPidns Instances
+              s6 knows it, and svscan passes it over
+
 exit status:
-  0           nothing is wrong
-  1           something is refused, or can't be started
+  0           all runs as it is written
+  1           something is refused or noted
   100         wrong usage
   111         DIRECTORY can't be read, or the system refused something
 ";

@@ -8,6 +8,8 @@ mod descriptors;
 mod front;
 mod help;
 mod help_text;
+mod ignored_signals;
+mod limited_errors;
 mod no_memory;
 mod place;
 mod program;

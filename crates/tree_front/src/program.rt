@@ -2,6 +2,8 @@
 use crate::connection::run_connection;
 use crate::descriptors::open_standard;
 use crate::front::{Asked, run_words};
+use crate::ignored_signals::{ignored_signals, is_child_ignored, tell_ignored};
+use crate::limited_errors::LimitedErrors;
 use crate::place::TreePlace;
 use crate::socket_trouble::tell_fault;
 use child_runner::{Keeper, ShellProbe};
@@ -115,6 +117,12 @@ pub fn begin_program<
             Begun::Done(run_connection(&rt, path, input, &mut output, &mut errors))
         }
         Asked::Tree(place) => {
+            let ignored = ignored_signals(&rt, alloc);
+            if is_child_ignored(ignored) {
+                let fault = ServeFault::Signals;
+                return Begun::Done(tell_fault(&rt, fault, &place, &mut errors));
+            }
+            tell_ignored(ignored, &mut errors);
             match begin_tree(rt, alloc, place.directory.as_str(), notes_output) {
                 Ok(parts) => Begun::Tree(parts.at(place)),
                 Err(fault) => Begun::Done(tell_fault(&rt, fault, &place, &mut errors)),
@@ -125,7 +133,8 @@ pub fn begin_program<
 
 // All that a tree needs before it runs. `Thread` where a thread can't be started, `NoMemory` where memory for the lanes is refused.
 fn begin_tree<
-    R: Processes<Started = SystemProcess>
+    R: Files<File = File>
+        + Processes<Started = SystemProcess>
         + Threads
         + Wait
         + Clock
@@ -139,7 +148,8 @@ fn begin_tree<
     // The shell that is tried runs beside what follows; `run_tree` asks how it ended.
     let probe = ShellProbe::start(&rt, alloc);
     // The thread that writes the notes.
-    let Some(notes) = start_notes(rt, alloc, notes_output) else {
+    let errors = LimitedErrors::new(rt, alloc, notes_output);
+    let Some(notes) = start_notes(rt, alloc, errors) else {
         return Err(ServeFault::Thread);
     };
     let Ok(keeper) = Keeper::start(rt, alloc) else {

@@ -86,6 +86,9 @@ fn before_of(fault: ServeFault, trouble: Trouble) -> &'static str
     ensures { result.now ≡ before_of fault trouble }
 {
     match fault {
+        ServeFault::Signals => {
+            "CHLD is ignored, so no end of a service could be seen; start it by: env --default-signal=CHLD"
+        }
         ServeFault::Shell => "/bin/sh can't be run, by which signals are sent",
         ServeFault::Socket => trouble_before(trouble),
         ServeFault::Directory => "can't be read, or has too much in it for a line of a script: ",

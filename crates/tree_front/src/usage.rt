@@ -1,6 +1,6 @@
 //! What is told of wrong words behind `svscan`, `svcheck`, `connect` or `help`: a line for programs, and one for people.
 ghost use Rattle.std.specs.Prelude.{◌≡◌, ◌++◌, IfOk, OnOk, option_map};
-ghost use Rattle.tree_front.specs.Usage.{advice_text, complaint_of, complaint_text, program_text, usage_text};
+ghost use Rattle.tree_front.specs.Usage.{advice_text, complaint_of, complaint_text, program_text, usage_text, word_text};
 
 use arrayvec::CapacityError;
 use s6_tools::{Misuse, Told, add_named, help_words, see_words};
@@ -9,8 +9,8 @@ use std::io::Write;
 /// The exit status for wrong usage.
 const USAGE_STATUS: u8 = 100;
 
-/// Tells by one write that the words behind a program's name are wrong, which word is, if one is, and what would be right. The exit status,
-/// 100.
+/// Tells by one write that the words behind a program's name are wrong, which word is, if one is, and what would be right. Of an empty word, `word`
+/// is the name of its place, as `SOCKET`. The exit status, 100.
 pub fn refuse_words<E: Write>(
     program: &str,
     misuse: Misuse,
@@ -26,13 +26,14 @@ pub fn refuse_words<E: Write>(
     USAGE_STATUS
 }
 
-// What the second line says behind the wrong word, or behind `a word`: that it is missing, or one too many. `refuse_words` is called
-// for these two alone.
+// What the second line says behind the wrong word, or behind `a word`: that it is missing, one too many, or empty. `refuse_words` is called
+// for these three alone.
 fn complaint_of(misuse: Misuse) -> &'static str
     ensures { result.now ≡ complaint_of misuse }
 {
     match misuse {
         Misuse::Missing => " is missing",
+        Misuse::Empty => " is empty",
         _ => " is one too many",
     }
 }
@@ -72,8 +73,19 @@ fn add_complaint(told: &mut Told, misuse: Misuse, word: Option<&str>) -> Result<
 {
     told.try_extend_from_slice(misuse.word().as_bytes())?;
     told.try_extend_from_slice(b": ")?;
-    add_named(told, b"a word", word)?;
+    add_word(told, misuse, word)?;
     told.try_extend_from_slice(complaint_of(misuse).as_bytes())
+}
+
+// Adds the wrong word; of one that is empty, its place is told, as `SOCKET`.
+fn add_word(told: &mut Told, misuse: Misuse, word: Option<&str>) -> Result<(), CapacityError>
+    ensures { OnOk result (told.new.items
+        ≡ told.old.items ++ word_text misuse (option_map (λ w. w.now) word.entry)) }
+{
+    match (misuse, word) {
+        (Misuse::Empty, Some(place)) => told.try_extend_from_slice(place.as_bytes()),
+        _ => add_named(told, b"a word", word),
+    }
 }
 
 // Adds to the second line what would be right, and the command that prints the help text. `form` is how the words have to be given, as

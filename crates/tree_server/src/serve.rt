@@ -3,12 +3,12 @@
 use crate::options::ServeOptions;
 use crate::service_lanes::TreeLanes;
 use crate::threads::{DriverParts, start_driver, start_lane};
-use child_runner::{Bell, LaneLink, ShellProbe};
+use child_runner::{Bell, LaneLink, LaneWorker, ShellProbe};
 use day_times::day_second;
 use error_notes::{NoteWriter, Notes};
 use line_server::{Seats, Server};
 use order_lanes::Backend;
-use run_recorder::{Recorder, create_recorder};
+use run_recorder::{RecordFile, RecordWriter, Recorder, create_recorder};
 use scan_directory::{Found, read_listing};
 use server_rules::{RowCache, ServeFault, serving_line};
 use server_threads::{
@@ -22,9 +22,9 @@ use std::net::Net;
 use std::os::unix::net::UnixListener;
 use std::rt::Files;
 use std::sync::{Arc, Wait};
-use std::thread;
 use std::thread::{Scope, Threads};
 use std::time::Clock;
+use std::{mem, thread};
 use tree_driver::RunSettings;
 
 /// What is made before a tree is served: what its threads share, the seats of connections, the listing for the first scan, and the recorder of
@@ -34,7 +34,7 @@ struct Parts {
     shared: Shared,
     seats: Seats,
     first_listing: Found,
-    recorder: Recorder<BufWriter<File>>,
+    recorder: Recorder<BufWriter<RecordFile>>,
 }
 
 /// Runs a tree of the services of a directory, and serves clients on a socket, until the tree has ended. Its threads live from its first run to
@@ -42,7 +42,7 @@ struct Parts {
 /// started, and no record is touched, before `probe` has found that `/bin/sh` runs, by which signals are sent. Page `s6-svscan`.
 pub fn run_tree<
     B: Backend + Send,
-    K: Backend + Send,
+    K: LaneWorker + Send,
     R: Net + Files<File = File> + Threads + Wait + Clock + Copy + Sync + Send + Drop,
 >(
     rt: &R,
@@ -56,8 +56,10 @@ pub fn run_tree<
     let Ok((listener, file)) = listen(rt, alloc, options.socket) else {
         return Err(ServeFault::Socket);
     };
+    let mut lanes = lanes;
+    let links = mem::replace(&mut lanes.links, Vec::new(alloc));
     // Where this fails, no service was started.
-    match prepare(rt, alloc, probe, options, notes) {
+    match prepare(rt, alloc, probe, links, options, notes) {
         Ok(parts) => serve(rt, listener, file, parts, lanes, options, notes),
         Err(fault) => {
             file.remove(rt, options.socket);
@@ -70,11 +72,12 @@ pub fn run_tree<
 // record, if there is one, and what the threads share. Of that, `callers` have what connections ask of the driver, `scans` is where the driver
 // asks for a reading of the scan directory, `rows` is what was last read for statuses, and `driver` is the bell that wakes the driver. `seats` say
 // who is connected. What is written to `errors` becomes notes. The error says what could not be made or read: `NoMemory` where memory was refused
-// (`fault_of` looks whether that was why).
+// (`fault_of` looks whether that was why). Each of the `links` carries the orders of a lane to the lane's thread, and its reports back.
 fn prepare<R: Files<File = File> + Wait + Clock + Copy + Drop>(
     rt: &R,
     alloc: Global,
     probe: ShellProbe,
+    links: Vec<Arc<LaneLink, Global>>,
     options: ServeOptions<'_>,
     notes: &Notes,
 ) -> Result<Parts, ServeFault> {
@@ -107,6 +110,7 @@ fn prepare<R: Files<File = File> + Wait + Clock + Copy + Drop>(
         callers,
         scans: ScanDesk::new(),
         rows,
+        lanes: links,
         driver: Bell::new(),
     };
     Ok(Parts {
@@ -125,14 +129,14 @@ fn fault_of(error: &io::Error, fault: ServeFault) -> ServeFault {
     }
 }
 
-// Serves the tree in threads, and reads its scan directory in this one (`attend`), until the tree has ended. Each of the `links` carries the
-// orders of a lane to the lane's thread, and its reports back. The driver's thread takes over `driver`, and notes in `outcome` how the tree has
+// Serves the tree in threads, and reads its scan directory in this one (`attend`), until the tree has ended. The `workers` carry out the orders of
+// the lanes, each in a thread. The driver's thread takes over `driver`, and notes in `outcome` how the tree has
 // ended. What is written to `errors` becomes notes; once all threads run, `tell_serving` writes that clients can connect. The error says why the
 // tree did not run to its end: `Socket` where the system refused a further descriptor of the listener, `Thread` where a thread could not be
 // started.
 fn serve<
     B: Backend + Send,
-    K: Backend + Send,
+    K: LaneWorker + Send,
     R: Files + Threads + Wait + Clock + Copy + Sync + Send + Drop,
 >(
     rt: &R,
@@ -152,10 +156,11 @@ fn serve<
     let Ok(server) = Server::new(shared.alloc, listener, seats, shared) else {
         return Err(ServeFault::Socket);
     };
+    // The links are with `shared`.
     let TreeLanes {
         backends,
-        links,
         workers,
+        ..
     } = lanes;
     let driver = DriverParts {
         backends,
@@ -168,22 +173,13 @@ fn serve<
     let outcome = Outcome::new();
     let mut errors = NoteWriter::new(rt, notes);
     thread::scope(thread::scope_env(), rt, |scope| {
-        if start_all(
-            scope,
-            rt,
-            &server,
-            links.as_slice(),
-            workers,
-            driver,
-            &outcome,
-            notes,
-        ) {
+        if start_all(scope, rt, &server, workers, driver, &outcome, notes) {
             tell_serving(server.answers(), options.socket, &mut errors);
             attend(rt, server.answers(), options.directory, &mut errors);
         }
         // All threads run, and the tree has ended; or one of them could not be started. The listener is still open, as `remove` asks.
         file.remove(rt, options.socket);
-        end_all(rt, &server, links.as_slice());
+        end_all(rt, &server);
     });
     outcome.get(rt)
 }
@@ -204,7 +200,6 @@ fn start_all<'s, S, B, K, W, R>(
     scope: &Scope<'s, S>,
     rt: &'s R,
     server: &'s Server<Shared>,
-    links: &'s [Arc<LaneLink, Global>],
     workers: Vec<K>,
     driver: DriverParts<B, W>,
     outcome: &'s Outcome,
@@ -212,23 +207,23 @@ fn start_all<'s, S, B, K, W, R>(
 ) -> bool
 where
     B: Backend + Send + 's,
-    K: Backend + Send + 's,
-    W: Write + Send + Drop + 's,
+    K: LaneWorker + Send + 's,
+    W: RecordWriter + Send + Drop + 's,
     R: Threads + Wait + Clock + Copy + Sync + Drop,
 {
-    for (link, worker) in links.iter().zip(workers) {
+    for (link, worker) in server.answers().lanes.iter().zip(workers) {
         if !start_lane(scope, rt, server.answers(), link, worker) {
             // The system refused the lane's thread.
             return false;
         }
     }
-    start_listener(scope, rt, server) && start_driver(scope, rt, server, driver, outcome, notes)
+    start_listener(scope, rt, server, notes)
+        && start_driver(scope, rt, server, driver, outcome, notes)
 }
 
-// Ends all threads of a tree but this one: those of the lanes, by their `links`, and those of the connections. The driver has ended before, or
-// was not started.
-fn end_all<R: Wait + Clock>(rt: &R, server: &Server<Shared>, links: &[Arc<LaneLink, Global>]) {
-    for link in links {
+// Ends all threads of a tree but this one: those of the lanes, and those of the connections. The driver has ended before, or was not started.
+fn end_all<R: Wait + Clock>(rt: &R, server: &Server<Shared>) {
+    for link in &server.answers().lanes {
         link.end(rt);
     }
     end_connections(rt, server);

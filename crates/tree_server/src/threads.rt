@@ -1,13 +1,13 @@
 //! The eleven threads of a tree. Here are the driver, which makes the tree's steps, and those of the four lanes, which carry out orders.
 //! The thread that began reads the scan directory (`serve.rt`), one accepts connections (`connecting.rt` of server_threads), two have the last seat
 //! (`accepting.rt` of line_server), one keeps the children (`keeper.rt` of child_runner), and one writes notes (`writing.rt` of error_notes).
-use child_runner::{LaneLink, serve_lane};
+use child_runner::{LaneLink, LaneWorker, serve_lane};
 use error_notes::{NoteWriter, Notes};
 use line_server::Server;
 use order_lanes::Backend;
+use run_recorder::RecordWriter;
 use scan_directory::Found;
 use server_threads::{Context, Outcome, Shared};
-use std::io::Write;
 use std::sync::Wait;
 use std::thread::{Builder, Scope, Threads};
 use std::time::Clock;
@@ -39,7 +39,7 @@ pub fn start_driver<'s, S, B, W, R>(
 ) -> bool
 where
     B: Backend + Send + 's,
-    W: Write + Send + Drop + 's,
+    W: RecordWriter + Send + Drop + 's,
     R: Threads + Wait + Clock + Copy + Sync + Drop,
 {
     Builder::new()
@@ -51,7 +51,7 @@ where
 }
 
 // Drives the tree to its end, and then ends the thread that reads the scan directory.
-fn drive_all<B: Backend, W: Write + Drop, R: Wait + Clock + Copy + Drop>(
+fn drive_all<B: Backend, W: RecordWriter + Drop, R: Wait + Clock + Copy + Drop>(
     rt: &R,
     server: &Server<Shared>,
     parts: DriverParts<B, W>,
@@ -90,7 +90,7 @@ pub fn start_lane<'s, S, K, R>(
     worker: K,
 ) -> bool
 where
-    K: Backend + Send + 's,
+    K: LaneWorker + Send + 's,
     R: Threads + Wait + Clock + Sync,
 {
     Builder::new()
@@ -100,7 +100,7 @@ where
 }
 
 // Carries out the orders of a lane to the end of the tree.
-fn carry_out<K: Backend, R: Wait + Clock>(rt: &R, shared: &Shared, link: &LaneLink, worker: K) {
+fn carry_out<K: LaneWorker, R: Wait + Clock>(rt: &R, shared: &Shared, link: &LaneLink, worker: K) {
     let mut worker = worker;
     // The driver's bell is rung when there is a report, or room for orders again.
     serve_lane(rt, link, &shared.driver, &mut worker);

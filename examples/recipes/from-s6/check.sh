@@ -32,17 +32,6 @@ note() {
     printf '%s: note: %s\n' "$name" "$1"
 }
 
-# Whether a file has what a number of svscan is: digits, at most 4294967295, and one newline at most.
-is_number() {
-    text=$(cat "$1" && echo .)
-    text=${text%.}
-    text=${text%"$newline"}
-    case $text in
-    "" | *[!0-9]*) return 1 ;;
-    esac
-    [ "$text" -le 4294967295 ] 2>/dev/null
-}
-
 # Whether `run` or `finish` has this word.
 says() {
     grep -qsE "(^|[^[:alnum:]_-])($1)([^[:alnum:]_-]|\$)" "./$name/run" "./$name/finish"
@@ -65,29 +54,25 @@ for place in ./*; do
     verdict=$(printf '%s\n' "$verdicts" | grep -F -- "$name: " | grep "^$name: " | head -n 1)
     case $verdict in
     *": refused "*) change "svscan doesn't take it: ${verdict#*: refused }" ;;
-    *": noted "*) change "${verdict#*: noted }" ;;
     esac
-    [ ! -e "$name/log" ] || change "log/ is not run: make the logger a service of its own, and see to its last lines (docs/RECIPES.md, Logs)"
+    # What svscan takes otherwise than it is written, or passes over.
+    notes=$(printf '%s\n' "$verdicts" | grep -F -- "$name: noted " | grep "^$name: noted ")
+    while IFS= read -r line; do
+        [ -z "$line" ] || change "${line#*: noted }"
+    done <<END
+$notes
+END
     says s6-permafailon && change "s6-permafailon: exec \"\$S6_TREE\" permafailon \"\$SOCKET\" \"\$3\" SECS COUNT LIST, as the last line"
     says 's6-notifyoncheck' && change "s6-notifyoncheck: let run ask, and then write a newline to the descriptor (docs/RECIPES.md, Readiness by polling)"
     says 's6-svwait|s6-svlisten|s6-svlisten1' && change "s6-svwait, s6-svlisten: \"\$S6_TREE\" svwait \"\$SOCKET\" -U NAME, with names and no paths"
     says 's6-svc|s6-svstat|s6-svok|s6-svscanctl|s6-svdt|s6-permafailon' && ! says s6-permafailon &&
         change "s6-svc and its like find no supervise/ here: \"\$S6_TREE\" svc \"\$SOCKET\" -LETTERS NAME, svstat, list"
     says 's6-ftrig-[a-z0-9]*|s6-mkfifodir' && change "event directories lie in svscan: ftrig-notify, ftrig-wait and mkfifodir of s6_tree take names"
-    [ ! -e "$name/flag-newpidns" ] || change "flag-newpidns is not read: begin run with exec unshare --pid --fork"
-    [ ! -e "$name/lock-fd" ] || change "lock-fd is not read"
-    [ ! -e "$name/instance" ] && [ ! -e "$name/instances" ] || change "instances are not made: one directory each"
     grep -qsE '(^|[^0-9$])\$\{?4|getenv 4|"\$@"|\$\*' "./$name/finish" && note "finish gets three arguments: exit code, signal number, name"
     case $verdict in
     *"readiness on descriptor 1"*) ;;
     *"readiness on descriptor"*) note "what run writes to descriptor 1 goes to svscan's standard error" ;;
     esac
-    if [ -f "$name/down-signal" ] && ! printf 'SIG%s\n' "$(sed 's/^SIG//' "./$name/down-signal")" | grep -qE '^SIG([A-Z][A-Z0-9]*|[1-9]|[1-5][0-9]|6[0-4])$'; then
-        change "down-signal: a name in capitals, or 1 to 64"
-    fi
-    if [ -f "$name/timeout-kill" ] && ! is_number "./$name/timeout-kill"; then
-        change "timeout-kill: digits for milliseconds, at most 4294967295; as it is there is no SIGKILL"
-    fi
     [ -z "$clean" ] || printf '%s: works as it is\n' "$name"
 done
 echo "all: note: rights on supervise/ and event/ count for nothing: give a group the SOCKET (docs/OPERATIONS.md, Security)"

@@ -2,13 +2,14 @@ use Rattle.std.proofs.Common.{[], ◌∷◌}
 use denote.Exit.{no}
 use denote.Param.Send.{param_send, param_sync, arg_send, shr_send}
 use Rattle.tree_core.proofs.Crosses.{closure_send}
+use Rattle.error_notes.proofs.Crosses.{notes_sync}
 use Rattle.server_threads.proofs.Crosses.{server_sync}
 use Rattle.server_threads.proofs.connecting.start_listener.Goals as goal
 
 -- all is shared
 pub spawn_scoped-requires-send-F : goal.spawn_scoped-requires-send-F
 spawn_scoped-requires-send-F c κs within lasts =
-    param_send 1 _ (arg_send _ no _ (closure_send _ (_ ∷ _ ∷ []) (
+    param_send 1 _ (arg_send _ no _ (closure_send _ (_ ∷ _ ∷ _ ∷ []) (
       shr_send _ _ _ (param_sync 1 _ κs.type_bounds.sync-R),
-      (shr_send _ _ _ server_sync, tt),
+      (shr_send _ _ _ server_sync, (shr_send _ _ _ notes_sync, tt)),
     )))

@@ -1,0 +1,136 @@
+//! Which connection makes way for a new one, where no seat is free.
+ghost use Rattle.std.specs.Prelude.{◌≡◌, Some, map};
+ghost use Rattle.line_server.specs.MakingWay.{idle_since, noting, dismissible_since, time_left, lesser, least_of, is_number, first_idle_since, longest_idle, first_chance};
+
+/// For so long after it came a connection keeps its seat, in milliseconds.
+pub const FIRST_TIME: u64 = 100;
+
+/// For so long a dismissed connection may still read its last answers, in milliseconds.
+pub const LAST_TIME: u64 = 1_000;
+
+/// What the connection of a seat does.
+#[derive(Clone, Copy, Debug, PartialEq, Eq)]
+pub enum SeatUse {
+    /// Since this moment of the system's clock, in milliseconds, it asks nothing, and nothing was written to it.
+    IdleSince(u64),
+    /// A line of it is being answered, or something is still to be told to it.
+    Needed,
+    /// It has ended, and its seat will be free.
+    Leaving,
+    /// It made way, and all that it had sent was answered at this moment: its seat will be free once it has read its answers.
+    Dismissed(u64),
+    /// It made way, and what it had sent before is being answered.
+    LastAnswers,
+}
+
+impl SeatUse {
+    /// Since when it is idle, if it is.
+    pub fn idle_since(&self) -> Option<u64>
+        ensures { result ≡ idle_since self.now }
+    {
+        match self {
+            SeatUse::IdleSince(moment) => Some(*moment),
+            SeatUse::Needed | SeatUse::Leaving | SeatUse::Dismissed(_) | SeatUse::LastAnswers =>
+                None,
+        }
+    }
+
+    /// What it does once that is noted: one that made way stays so, and is waited for while it is answered.
+    pub fn noting(self, doing: SeatUse) -> SeatUse
+        ensures { result ≡ noting self doing }
+    {
+        match (self, doing) {
+            (SeatUse::Dismissed(_), SeatUse::Needed) => SeatUse::LastAnswers,
+            (SeatUse::LastAnswers, SeatUse::IdleSince(moment)) => SeatUse::Dismissed(moment),
+            (SeatUse::Dismissed(_) | SeatUse::LastAnswers, _) => self,
+            (_, doing) => doing,
+        }
+    }
+}
+
+/// The connection of a seat: when it came, in milliseconds of the system's clock, and what it does.
+#[derive(Clone, Copy, Debug, PartialEq, Eq)]
+pub struct Occupant {
+    pub came: u64,
+    pub doing: SeatUse,
+}
+
+impl Occupant {
+    /// Since when it is idle, if it may be dismissed at the moment `now`: not within the first 100 milliseconds after it came.
+    pub fn dismissible_since(&self, now: u64) -> Option<u64>
+        ensures { result ≡ dismissible_since now self.now }
+    {
+        if now.saturating_sub(self.came) >= FIRST_TIME {
+            self.doing.idle_since()
+        } else {
+            None
+        }
+    }
+
+    /// After how many milliseconds it may be dismissed, if it is idle.
+    pub fn time_left(&self, now: u64) -> Option<u64>
+        ensures { result ≡ time_left now self.now }
+    {
+        let _since = self.doing.idle_since()?;
+        Some(FIRST_TIME.saturating_sub(now.saturating_sub(self.came)))
+    }
+}
+
+// The lesser of two numbers, or the one that is there.
+fn lesser(one: Option<u64>, other: Option<u64>) -> Option<u64>
+    ensures { result ≡ lesser one other }
+{
+    match (one, other) {
+        (Some(one), Some(other)) => Some(one.min(other)),
+        (Some(one), None) => Some(one),
+        (None, other) => other,
+    }
+}
+
+// Since when the connection is idle that has been for the longest time, of those that may be dismissed; None where none may.
+fn longest_since(occupants: &[Occupant], now: u64) -> Option<u64>
+    ensures { result ≡ least_of (map (dismissible_since now) occupants.now) }
+{
+    match occupants {
+        [] => None,
+        [first, rest @ ..] => lesser(first.dismissible_since(now), longest_since(rest, now)),
+    }
+}
+
+// Whether a number is there, and this one.
+fn is_number(number: u64, found: Option<u64>) -> bool
+    ensures { result ≡ is_number number found }
+{
+    match found {
+        Some(found) => found == number,
+        None => false,
+    }
+}
+
+// The first seat whose connection may be dismissed and is idle since this moment.
+fn first_idle_since(occupants: &[Occupant], now: u64, moment: u64) -> Option<usize>
+    ensures { result ≡ first_idle_since (Some moment) now occupants.now }
+{
+    occupants
+        .iter()
+        .position(|one| is_number(moment, one.dismissible_since(now)))
+}
+
+/// The seat whose connection has been idle for the longest time, of those that may be dismissed at the moment `now`, in milliseconds; None where
+/// none may. Of two that are alike, the first.
+pub fn longest_idle(occupants: &[Occupant], now: u64) -> Option<usize>
+    ensures { result ≡ longest_idle now occupants.now }
+{
+    let moment = longest_since(occupants, now)?;
+    first_idle_since(occupants, now, moment)
+}
+
+/// After how many milliseconds, from the moment `now` on, the first of the connections that are idle may be dismissed; None where none is idle.
+pub fn first_chance(occupants: &[Occupant], now: u64) -> Option<u64>
+    ensures { result ≡ first_chance now occupants.now }
+{
+    match occupants {
+        [] => None,
+        [first, rest @ ..] => lesser(first.time_left(now), first_chance(rest, now)),
+    }
+}
