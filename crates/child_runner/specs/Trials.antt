@@ -1,6 +1,10 @@
 -- Which starts are tried again, and when.
-use Rattle.std.specs.Prelude.{ℕ, ◌-◌, ◌==◌, ◌||◌, Bool, nat_le}
+use Rattle.std.specs.Prelude.{ℕ, ◌-◌, ◌==◌, ◌||◌, Bool, true, false, nat_le, nat_eq, pointwise}
+use Rattle.s6_events.specs.declared.order.Order.{Order}
+use Rattle.s6_events.specs.declared.order.Order.TheVariants as order
 use Rattle.child_runner.specs.declared.trials.Schedule.{Schedule}
+use Rattle.child_runner.specs.declared.trials.Unwanted.{Unwanted}
+use Rattle.child_runner.specs.declared.trials.Unwanted.TheVariants as unwanted
 
 -- the system's numbers for faults that pass: a disk failed (5), too much is asked at once (11), no memory (12), no descriptor (23, 24), and the
 -- file is open for writing (26)
@@ -30,3 +34,11 @@ is_over now schedule = nat_le try_time (now - schedule.begun)
 -- it was tried once more
 abbrev pub tried_at : ℕ → Schedule → Schedule
 tried_at now schedule = record schedule { tried = now }
+
+-- the start that this order asks for is wanted no more: a service that is to be down has its `finish` started all the same
+abbrev pub is_unwanted : Order → Unwanted → Bool
+is_unwanted (order.Run sid generation name fd) (unwanted.Run wanted_not) = pointwise nat_eq wanted_not name
+is_unwanted (order.Run sid generation name fd) unwanted.EachRun = true
+is_unwanted (order.Finish sid generation name code signal) (unwanted.Finish wanted_not) = pointwise nat_eq wanted_not name
+is_unwanted asked unwanted.All = true
+is_unwanted asked other = false

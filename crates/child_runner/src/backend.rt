@@ -224,7 +224,7 @@ impl<
             return;
         };
         match unwanted {
-            Some(unwanted) if unwanted.holds_of(&trial.process.name) => {
+            Some(unwanted) if unwanted.holds_of(&trial.order) => {
                 self.give_up(&trial.process);
             }
             Some(_) => self.put_back(trial),
@@ -257,7 +257,7 @@ impl<
             return;
         };
         // No other start of the service is tried meanwhile.
-        let unwanted = Some(Unwanted::Service(process.name));
+        let unwanted = Some(Unwanted::Finish(process.name));
         self.go_over_all(&unwanted, 0);
     }
 

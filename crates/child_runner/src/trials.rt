@@ -1,6 +1,6 @@
 //! Starts that failed for a fault of the moment: when each is tried again, and whom nobody wants any more.
 ghost use Rattle.std.specs.Prelude.{◌≡◌};
-ghost use Rattle.child_runner.specs.Trials.{begun_at, time_left, is_over, tried_at};
+ghost use Rattle.child_runner.specs.Trials.{begun_at, time_left, is_over, tried_at, is_unwanted};
 
 use crate::shared_child::ServiceProcess;
 use s6_events::{Name, Order};
@@ -54,21 +54,30 @@ impl Schedule {
     }
 }
 
-/// Whose starts are wanted no more.
+/// Which starts are wanted no more.
 #[derive(Clone, Copy, PartialEq, Eq, Debug)]
 pub enum Unwanted {
-    /// That of the service of this name.
-    Service(Name),
+    /// Those of `run` of the service of this name.
+    Run(Name),
+    /// Those of each `run`. A `finish` is started all the same.
+    EachRun,
+    /// Those of `finish` of the service of this name.
+    Finish(Name),
     /// All of them.
     All,
 }
 
 impl Unwanted {
-    /// Whether the start of the service of this name is wanted no more.
-    pub(crate) fn holds_of(&self, name: &Name) -> bool {
-        match self {
-            Unwanted::Service(unwanted) => unwanted == name,
-            Unwanted::All => true,
+    /// Whether the start that this order asks for is wanted no more.
+    pub(crate) fn holds_of(&self, order: &Order) -> bool
+        ensures { result ≡ is_unwanted order.now self.now }
+    {
+        match (self, order) {
+            (Unwanted::Run(unwanted), Order::Run(_, _, name, _)) => unwanted == name,
+            (Unwanted::Finish(unwanted), Order::Finish(_, _, name, _, _)) => unwanted == name,
+            (Unwanted::EachRun, Order::Run(..)) => true,
+            (Unwanted::All, _) => true,
+            _ => false,
         }
     }
 }

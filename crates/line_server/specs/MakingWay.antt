@@ -1,7 +1,9 @@
 -- Which connection gives its seat to one that knocks.
-use Rattle.std.specs.Prelude.{ℕ, ◌-◌, ◌==◌, Bool, false, List, [], ◌∷◌, Option, Some, None, map, min, nat_le, option_map, position, if◌then◌else◌}
+use Rattle.std.specs.Prelude.{ℕ, ◌-◌, ◌==◌, Bool, true, false, not, List, [], ◌∷◌, Option, Some, None, map, min, nat_le, option_map, position, if◌then◌else◌}
 use Rattle.line_server.specs.declared.making_way.SeatUse.{SeatUse}
-use Rattle.line_server.specs.declared.making_way.SeatUse.TheVariants.{IdleSince, Needed, Leaving, Dismissed, LastAnswers}
+use Rattle.line_server.specs.declared.making_way.SeatUse.TheVariants.{NewSince, IdleSince, Needed, Leaving, Dismissed, LastAnswers, TurnedAway}
+use Rattle.line_server.specs.declared.making_way.KnockStage.{KnockStage}
+use Rattle.line_server.specs.declared.making_way.KnockStage.TheVariants.{First, Later, Served}
 use Rattle.line_server.specs.declared.making_way.Occupant.{Occupant}
 
 -- for so long after it came a connection keeps its seat, in milliseconds
@@ -10,11 +12,38 @@ first_time = 100
 
 -- since when a connection asks nothing and waits for nothing, if it doesn't
 abbrev pub idle_since : SeatUse → Option ℕ
+idle_since (NewSince moment) = Some moment
 idle_since (IdleSince moment) = Some moment
-idle_since Needed = None
-idle_since Leaving = None
-idle_since (Dismissed moment) = None
-idle_since LastAnswers = None
+idle_since other = None
+
+-- a connection has ended or made way
+abbrev pub is_leaving : SeatUse → Bool
+is_leaving (NewSince moment) = false
+is_leaving (IdleSince moment) = false
+is_leaving Needed = false
+is_leaving other = true
+
+-- since when nothing more is to be posted to a connection that made way
+abbrev pub last_moment : SeatUse → Option ℕ
+last_moment (Dismissed moment) = Some moment
+last_moment (TurnedAway moment) = Some moment
+last_moment other = None
+
+-- its lines are carried out
+abbrev pub takes_lines : SeatUse → Bool
+takes_lines (TurnedAway moment) = false
+takes_lines other = true
+
+-- one that makes way before a line of it was read is turned away
+abbrev pub dismissed : ℕ → SeatUse → SeatUse
+dismissed now (NewSince moment) = TurnedAway now
+dismissed now other = Dismissed now
+
+-- a knock waits a moment for one that leaves anyway, and no more than one makes way for it
+abbrev pub may_dismiss : Bool → KnockStage → Bool
+may_dismiss is_one_leaving First = not is_one_leaving
+may_dismiss is_one_leaving Later = true
+may_dismiss is_one_leaving Served = false
 
 -- one that made way stays so: it is waited for while what it had sent is answered, and until it has read that
 abbrev pub noting : SeatUse → SeatUse → SeatUse
@@ -22,6 +51,7 @@ noting (Dismissed before) Needed = LastAnswers
 noting (Dismissed before) doing = Dismissed before
 noting LastAnswers (IdleSince moment) = Dismissed moment
 noting LastAnswers doing = LastAnswers
+noting (TurnedAway before) doing = TurnedAway before
 noting before doing = doing
 
 -- since when a connection that may be dismissed is idle: its first time is over

@@ -198,10 +198,10 @@ fn answer_lines<W: Answers, R: Wait + Clock>(
         match buffer.next_line(line) {
             Ok(LineStatus::Part) => break,
             Ok(LineStatus::Whole) => {
-                if !has_asked {
-                    has_asked = true;
-                    server.note(rt, seat, SeatUse::Needed);
+                if !has_asked && !server.note_lines(rt, seat) {
+                    return turn_away(rt, mailbox);
                 }
+                has_asked = true;
                 next = server.answers.answer(rt, seat, line.as_slice(), mailbox);
             }
             Ok(LineStatus::TooLong) => {
@@ -221,4 +221,10 @@ fn answer_lines<W: Answers, R: Wait + Clock>(
         server.note(rt, seat, SeatUse::IdleSince(millis_of(rt)));
     }
     next
+}
+
+// Tells a connection that made way before its first line was read that nothing of it is carried out.
+fn turn_away<R: Wait>(rt: &R, mailbox: &Mailbox) -> Next {
+    let _ = mailbox.post(rt, b"busy\n");
+    Next::Close
 }

@@ -15,7 +15,7 @@ mod work_desk;
 pub use accepting::serve;
 pub use line_buffer::{LINE_LIMIT, LineBuffer, LineStatus};
 pub use mailbox::Mailbox;
-pub use making_way::{FIRST_TIME, LAST_TIME, Occupant, SeatUse};
+pub use making_way::{FIRST_TIME, KnockStage, LAST_TIME, Occupant, SeatUse};
 pub use outbox::{OUTBOX_LIMIT, Outbox, PostFault};
 pub use seats::{LAST_SEAT, SEAT_COUNT, Seats};
 pub use server::{Answers, Next, Server};

@@ -1,6 +1,6 @@
 //! Which connection makes way for a new one, where no seat is free.
 ghost use Rattle.std.specs.Prelude.{◌≡◌, Some, map};
-ghost use Rattle.line_server.specs.MakingWay.{idle_since, noting, dismissible_since, time_left, lesser, least_of, is_number, first_idle_since, longest_idle, first_chance};
+ghost use Rattle.line_server.specs.MakingWay.{idle_since, is_leaving, last_moment, takes_lines, dismissed, noting, may_dismiss, dismissible_since, time_left, lesser, least_of, is_number, first_idle_since, longest_idle, first_chance};
 
 /// For so long after it came a connection keeps its seat, in milliseconds.
 pub const FIRST_TIME: u64 = 100;
@@ -11,6 +11,8 @@ pub const LAST_TIME: u64 = 1_000;
 /// What the connection of a seat does.
 #[derive(Clone, Copy, Debug, PartialEq, Eq)]
 pub enum SeatUse {
+    /// It came at this moment of the system's clock, in milliseconds, and no line of it was read yet.
+    NewSince(u64),
     /// Since this moment of the system's clock, in milliseconds, it asks nothing, and nothing was written to it.
     IdleSince(u64),
     /// A line of it is being answered, or something is still to be told to it.
@@ -21,6 +23,8 @@ pub enum SeatUse {
     Dismissed(u64),
     /// It made way, and what it had sent before is being answered.
     LastAnswers,
+    /// It made way at this moment, and no line of it had been read: none is carried out, and it is told `busy`.
+    TurnedAway(u64),
 }
 
 impl SeatUse {
@@ -29,9 +33,48 @@ impl SeatUse {
         ensures { result ≡ idle_since self.now }
     {
         match self {
-            SeatUse::IdleSince(moment) => Some(*moment),
-            SeatUse::Needed | SeatUse::Leaving | SeatUse::Dismissed(_) | SeatUse::LastAnswers =>
-                None,
+            SeatUse::NewSince(moment) | SeatUse::IdleSince(moment) => Some(*moment),
+            _ => None,
+        }
+    }
+
+    /// Whether it has ended or made way, so that its seat will be free.
+    pub fn is_leaving(&self) -> bool
+        ensures { result ≡ is_leaving self.now }
+    {
+        match self {
+            SeatUse::NewSince(_) | SeatUse::IdleSince(_) | SeatUse::Needed => false,
+            SeatUse::Leaving
+            | SeatUse::Dismissed(_)
+            | SeatUse::LastAnswers
+            | SeatUse::TurnedAway(_) => true,
+        }
+    }
+
+    /// Since when nothing more is to be posted to it, if it made way.
+    pub fn last_moment(&self) -> Option<u64>
+        ensures { result ≡ last_moment self.now }
+    {
+        match self {
+            SeatUse::Dismissed(moment) | SeatUse::TurnedAway(moment) => Some(*moment),
+            _ => None,
+        }
+    }
+
+    /// Whether its lines are carried out.
+    pub fn takes_lines(&self) -> bool
+        ensures { result ≡ takes_lines self.now }
+    {
+        !matches!(self, SeatUse::TurnedAway(_))
+    }
+
+    /// What it does once it makes way at the moment `now`: one of which no line was read is turned away, so that no wait of it is begun and then lost.
+    pub fn dismissed(self, now: u64) -> SeatUse
+        ensures { result ≡ dismissed now self }
+    {
+        match self {
+            SeatUse::NewSince(_) => SeatUse::TurnedAway(now),
+            _ => SeatUse::Dismissed(now),
         }
     }
 
@@ -42,8 +85,33 @@ impl SeatUse {
         match (self, doing) {
             (SeatUse::Dismissed(_), SeatUse::Needed) => SeatUse::LastAnswers,
             (SeatUse::LastAnswers, SeatUse::IdleSince(moment)) => SeatUse::Dismissed(moment),
-            (SeatUse::Dismissed(_) | SeatUse::LastAnswers, _) => self,
+            (SeatUse::Dismissed(_) | SeatUse::LastAnswers | SeatUse::TurnedAway(_), _) => self,
             (_, doing) => doing,
+        }
+    }
+}
+
+/// How far a knock is: a connection that waits for a seat.
+#[derive(Clone, Copy, Debug, PartialEq, Eq)]
+pub enum KnockStage {
+    /// It has just come.
+    First,
+    /// It has looked, and nobody has made way for it yet.
+    Later,
+    /// One has made way for it.
+    Served,
+}
+
+impl KnockStage {
+    /// Whether a connection is to make way for it. `is_one_leaving`: one leaves anyway, for which it waits a moment. Only one makes way for it, also
+    /// where that one takes long to leave.
+    pub fn may_dismiss(self, is_one_leaving: bool) -> bool
+        ensures { result ≡ may_dismiss is_one_leaving self }
+    {
+        match self {
+            KnockStage::First => !is_one_leaving,
+            KnockStage::Later => true,
+            KnockStage::Served => false,
         }
     }
 }

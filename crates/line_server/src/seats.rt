@@ -1,6 +1,6 @@
 //! Who is connected: a connection has one of 11 seats, known by its number, from 0. A sitting is a connection on its seat, with its mailbox.
 use crate::mailbox::Mailbox;
-use crate::making_way::{LAST_TIME, Occupant, SeatUse, first_chance, longest_idle};
+use crate::making_way::{KnockStage, LAST_TIME, Occupant, SeatUse, first_chance, longest_idle};
 use std::alloc::{AllocError, Global};
 use std::sync::{Arc, Wait};
 
@@ -89,14 +89,22 @@ impl Seats {
             Some(place) if place.is_none() => {
                 let occupant = Occupant {
                     came: now,
-                    // It has asked nothing yet.
-                    doing: SeatUse::IdleSince(now),
+                    doing: SeatUse::NewSince(now),
                 };
                 *place = Some(Sitting { mailbox, occupant });
                 true
             }
             _ => false,
         }
+    }
+
+    /// Notes that lines of the connection on this seat were read. Returns whether they are to be carried out: not where it made way before.
+    pub fn note_lines(&mut self, seat: usize) -> bool {
+        let Some(Some(sitting)) = self.sittings.get_mut(seat) else {
+            return false;
+        };
+        sitting.occupant.doing = sitting.occupant.doing.noting(SeatUse::Needed);
+        sitting.occupant.doing.takes_lines()
     }
 
     /// Notes what the connection on this seat does now. Returns whether a connection that has knocked is to look again, since this one is idle.
@@ -123,26 +131,35 @@ impl Seats {
 
     /// Looks who makes way for a connection that has knocked, at the moment `now`, in milliseconds: the one that has been idle for the longest time,
     /// of those that came 100 milliseconds ago or earlier. It is dismissed: no further line of it is read, and its seat is free once its answers
-    /// are written. Those of `needed` stay. At the first look of a knock nobody is dismissed if one is leaving anyway. Returns after how many
-    /// milliseconds it is time to look again.
+    /// are written. Those of `needed` stay. At the first look of a knock nobody is dismissed if one is leaving anyway, and only one makes way for a
+    /// knock. Notes in `stage` how far the knock is then. Returns after how many milliseconds it is time to look again.
     pub fn make_way<R: Wait>(
         &mut self,
         rt: &R,
         needed: &[bool; SEAT_COUNT],
         now: u64,
-        is_first_look: bool,
+        stage: &mut KnockStage,
     ) -> u64 {
         self.end_dismissed(rt, now);
-        if is_first_look && self.is_one_leaving() {
-            return LEAVING_WAIT;
+        let is_first = *stage == KnockStage::First;
+        if !stage.may_dismiss(self.is_one_leaving()) {
+            if is_first {
+                *stage = KnockStage::Later;
+                return LEAVING_WAIT;
+            }
+            return LOOK_WAIT;
         }
         let occupants = self.occupants(needed);
         match longest_idle(&occupants, now) {
             Some(seat) => {
                 self.dismiss(seat, now);
+                *stage = KnockStage::Served;
                 LOOK_WAIT
             }
-            None => first_chance(&occupants, now).unwrap_or(LOOK_WAIT),
+            None => {
+                *stage = KnockStage::Later;
+                first_chance(&occupants, now).unwrap_or(LOOK_WAIT)
+            }
         }
     }
 
@@ -158,18 +175,17 @@ impl Seats {
 
     // Whether a connection has ended or was dismissed, and its seat will be free.
     fn is_one_leaving(&self) -> bool {
-        self.sittings.as_slice().iter().flatten().any(|sitting| {
-            matches!(
-                sitting.occupant.doing,
-                SeatUse::Leaving | SeatUse::Dismissed(_) | SeatUse::LastAnswers
-            )
-        })
+        self.sittings
+            .as_slice()
+            .iter()
+            .flatten()
+            .any(|sitting| sitting.occupant.doing.is_leaving())
     }
 
     // Dismisses the connection of this seat. Its own thread frees the seat, once all that was posted to it is written.
     fn dismiss(&mut self, seat: usize, now: u64) {
         if let Some(Some(sitting)) = self.sittings.get_mut(seat) {
-            sitting.occupant.doing = SeatUse::Dismissed(now);
+            sitting.occupant.doing = sitting.occupant.doing.dismissed(now);
             sitting.mailbox.dismiss();
         }
     }
@@ -177,10 +193,8 @@ impl Seats {
     // Ends each connection that was dismissed, and to which all was answered a second ago or earlier, and which has not read that.
     fn end_dismissed<R: Wait>(&self, rt: &R, now: u64) {
         for sitting in self.sittings.as_slice().iter().flatten() {
-            match sitting.occupant.doing {
-                SeatUse::Dismissed(moment) if now.saturating_sub(moment) >= LAST_TIME => {
-                    sitting.mailbox.end(rt);
-                }
+            match sitting.occupant.doing.last_moment() {
+                Some(moment) if now.saturating_sub(moment) >= LAST_TIME => sitting.mailbox.end(rt),
                 _ => {}
             }
         }

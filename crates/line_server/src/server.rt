@@ -1,6 +1,6 @@
 //! A server of lines: who is connected, and who answers. A connection has one of eleven seats, and a mailbox, where texts wait to be written to it.
 use crate::mailbox::Mailbox;
-use crate::making_way::SeatUse;
+use crate::making_way::{KnockStage, SeatUse};
 use crate::seats::{LAST_SEAT, SEAT_COUNT, Seats};
 use crate::work_desk::WorkDesk;
 use std::alloc::{AllocError, Global};
@@ -25,8 +25,7 @@ pub(crate) struct Knock {
     until: u64,
     // Whether it may have the last seat alone.
     is_for_last: bool,
-    // Whether nobody has made way for it yet.
-    is_first_look: bool,
+    stage: KnockStage,
 }
 
 /// What happens to a connection after a line was answered.
@@ -171,7 +170,7 @@ impl<W: Answers> Server<W> {
         Knock {
             until: millis_of(rt).saturating_add(KNOCK_WAIT),
             is_for_last,
-            is_first_look: true,
+            stage: KnockStage::First,
         }
     }
 
@@ -195,8 +194,7 @@ impl<W: Answers> Server<W> {
         }
         // Under the lock: what is needed or idle now stays so until one is dismissed.
         let needed = self.needed_seats(rt, knock.is_for_last);
-        let wait = seats.make_way(rt, &needed, now, knock.is_first_look);
-        knock.is_first_look = false;
+        let wait = seats.make_way(rt, &needed, now, &mut knock.stage);
         let changes = seats.changes();
         seats.note_knock(true);
         let time = Duration::from_millis(wait.min(left));
@@ -205,6 +203,11 @@ impl<W: Answers> Server<W> {
         });
         seats.note_knock(false);
         true
+    }
+
+    // Notes that lines of the connection on this seat were read. Returns whether they are to be carried out: not where it made way before.
+    pub(crate) fn note_lines<R: Wait>(&self, rt: &R, seat: usize) -> bool {
+        self.seats.lock(rt).note_lines(seat)
     }
 
     // Notes what the connection on this seat does now.
@@ -258,7 +261,7 @@ impl<W: Answers> Server<W> {
             _ => {
                 let needed = self.needed_seats(rt, false);
                 // As at the first look: where one is leaving anyway, its descriptor will do.
-                let _ = seats.make_way(rt, &needed, millis_of(rt), true);
+                let _ = seats.make_way(rt, &needed, millis_of(rt), &mut KnockStage::First);
                 ACCEPT_WAIT
             }
         };

@@ -76,3 +76,8 @@ answer_by kind.Strange second third = answer.Strange
 -- what a line says
 abbrev pub answer_of : List ℕ → Answer
 answer_of line = answer_by (kind_of (word_in line 0)) (word_in line 1) (word_in line 2)
+
+-- the answer says that the request was carried out
+abbrev pub says_done : Answer → Bool
+says_done answer.Done = true
+says_done other = false

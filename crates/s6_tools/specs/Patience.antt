@@ -18,6 +18,11 @@ abbrev pub timeout_within : Option ℕ → ℕ
 timeout_within None = 0
 timeout_within (Some n) = min (max n 1) 4294967295
 
+-- how long a try may take: what is left, but long enough for a busy server to say so
+abbrev pub time_of_try : Option ℕ → Option ℕ
+time_of_try None = None
+time_of_try (Some n) = Some (max n 500)
+
 -- a pause, no longer than the time that is left; None where no time is left
 abbrev pub pause_within : Option ℕ → ℕ → Option ℕ
 pause_within None pause = Some pause

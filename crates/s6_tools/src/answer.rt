@@ -1,8 +1,9 @@
 //! Reads a line of the server, whose words are counted from 0. The lines are this program's own, not those of s6.
 ghost use Rattle.std.specs.Prelude.{◌≡◌};
-ghost use Rattle.s6_tools.specs.Answers.{is_done, kind_of, outcome_of, release_of, match_of, failure_of, answer_of};
+ghost use Rattle.s6_tools.specs.Answers.{is_done, kind_of, outcome_of, release_of, match_of, failure_of, answer_of, says_done};
 
 use crate::told_word::ToldWord;
+use crate::tool_fault::ToolFault;
 use crate::words::{is_word, word_or_none};
 
 /// How a waiter was released.
@@ -44,6 +45,15 @@ pub enum Answer {
     Busy,
     /// A line that no server writes.
     Strange,
+}
+
+impl Answer {
+    /// Whether it says that the request was carried out.
+    pub fn says_done(&self) -> bool
+        ensures { result ≡ says_done self.now }
+    {
+        matches!(self, Answer::Done)
+    }
 }
 
 // The kind of a line, by its first word.
@@ -168,5 +178,14 @@ pub fn read_answer(line: &[u8]) -> Answer
         Kind::Match => match_of(word_or_none(line, 2)),
         Kind::Busy => Answer::Busy,
         Kind::Strange => Answer::Strange,
+    }
+}
+
+/// Looks whether the answer says that the request was carried out. The fault is `Socket` where it is another line, which no server writes then.
+pub fn expect_done(answer: &Answer) -> Result<(), ToolFault> {
+    if answer.says_done() {
+        Ok(())
+    } else {
+        Err(ToolFault::Socket)
     }
 }

@@ -34,7 +34,7 @@ pub fn ask_within<R: Net + Clock>(
 ) -> Result<(ToolConnection, Answer), ToolFault> {
     for _ in 0..u64::MAX {
         let begun = Instant::now(rt)?;
-        match ask_once(rt, alloc, path, request, patience.left) {
+        match ask_once(rt, alloc, path, request, patience.time_of_try()) {
             Err(fault) => await_room(rt, fault, begun, patience)?,
             asked => return asked,
         }
@@ -62,8 +62,8 @@ pub fn await_room<R: Clock>(
     Ok(())
 }
 
-// How many milliseconds have passed since a moment; as many as can be where the system has no clock any more.
-fn millis_since<R: Clock>(rt: &R, begun: Instant) -> u64 {
+/// How many milliseconds have passed since a moment; as many as can be where the system has no clock any more.
+pub fn millis_since<R: Clock>(rt: &R, begun: Instant) -> u64 {
     match begun.elapsed(rt) {
         Ok(passed) => u64::try_from(passed.as_millis()).unwrap_or(u64::MAX),
         Err(_) => u64::MAX,
@@ -116,15 +116,23 @@ impl ToolConnection {
         at_most: Option<u64>,
     ) -> Result<ToolConnection, ToolFault> {
         let stream = connect(rt, path)?;
-        // A time of 0 would be none.
-        let time = at_most.map(|millis| Duration::from_millis(millis.max(1)));
-        stream.set_read_timeout(time)?;
-        stream.set_write_timeout(time)?;
-        Ok(ToolConnection {
+        let connection = ToolConnection {
             reader: BufReader::new(alloc, stream)?,
             // The line that was read last: none yet.
             line: Vec::new(alloc),
-        })
+        };
+        connection.bound(at_most)?;
+        Ok(connection)
+    }
+
+    /// Bounds each reading and writing from now on, in milliseconds; None: without end.
+    pub fn bound(&self, at_most: Option<u64>) -> Result<(), ToolFault> {
+        // A time of 0 would be none.
+        let time = at_most.map(|millis| Duration::from_millis(millis.max(1)));
+        let stream = self.reader.get_ref();
+        stream.set_read_timeout(time)?;
+        stream.set_write_timeout(time)?;
+        Ok(())
     }
 
     /// Sends a request in one write, and reads its reply. A refusal is a fault, and so is a server without a seat. Where the connection ends before

@@ -4,7 +4,7 @@ ghost use Rattle.event_directory.specs.Pattern.{is_expression};
 ghost use Rattle.s6_tools.specs.declared.misuse.Misuse.TheVariants as misuse;
 ghost use Rattle.s6_tools.specs.Targets.{before_event, target_of, IsPrintable};
 
-use crate::answer::Answer;
+use crate::answer::{Answer, expect_done};
 use crate::connection::{ask_server, ask_within};
 use crate::misuse::Misuse;
 use crate::patience::Patience;
@@ -92,8 +92,9 @@ pub fn run_mkfifodir<R: Net + Clock>(
         return Err(ToolFault::Usage(misuse_of(words.len(), 1)));
     };
     let request = make_directory_request(alloc, &name_of(name)?)?;
-    // A refusal is a fault. Any other answer counts as done.
-    ask_server(rt, alloc, socket, request.as_slice())?;
+    // A refusal is a fault.
+    let (_connection, answer) = ask_server(rt, alloc, socket, request.as_slice())?;
+    expect_done(&answer)?;
     Ok(0)
 }
 
@@ -110,8 +111,9 @@ pub fn run_ftrig_notify<R: Net + Clock>(
     let target = read_target(target)?;
     let message = Message::new(message.as_bytes()).ok_or(ToolFault::Usage(Misuse::BadMessage))?;
     let request = send_request(alloc, &target, &message)?;
-    // A refusal is a fault. Any other answer counts as done.
-    ask_server(rt, alloc, socket, request.as_slice())?;
+    // A refusal is a fault.
+    let (_connection, answer) = ask_server(rt, alloc, socket, request.as_slice())?;
+    expect_done(&answer)?;
     Ok(0)
 }
 

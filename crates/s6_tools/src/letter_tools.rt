@@ -1,4 +1,5 @@
 //! `svc`, which sends letters to a service, as `u` to start it, and `svscanctl`, which sends them to the supervisor of the scan directory.
+use crate::answer::expect_done;
 use crate::connection::ask_server;
 use crate::request::{scan_request, svc_request};
 use crate::tool_fault::ToolFault;
@@ -16,8 +17,9 @@ pub fn run_svc<R: Net + Clock>(
 ) -> Result<u8, ToolFault> {
     let command = compile_svc(words)?;
     let request = svc_request(alloc, &command)?;
-    // A refusal is a fault. Any other answer counts as done.
-    ask_server(rt, alloc, socket, request.as_slice())?;
+    // A refusal is a fault.
+    let (_connection, answer) = ask_server(rt, alloc, socket, request.as_slice())?;
+    expect_done(&answer)?;
     Ok(0)
 }
 
@@ -33,9 +35,10 @@ pub fn run_svscanctl<R: Net + Clock>(
         // This never comes: `compile_svscanctl` gives at least one letter.
         return Ok(0);
     };
-    let (mut connection, _answer) = ask_server(rt, alloc, socket, scan_request(*first))?;
+    let (mut connection, answer) = ask_server(rt, alloc, socket, scan_request(*first))?;
+    expect_done(&answer)?;
     for letter in further {
-        connection.ask(scan_request(*letter))?;
+        expect_done(&connection.ask(scan_request(*letter))?)?;
     }
     Ok(0)
 }

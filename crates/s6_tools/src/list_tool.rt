@@ -40,7 +40,7 @@ fn ask_states<R: Net + Clock>(
     let mut patience = Patience::of(Some(TRY_TIME));
     for _ in 0..u64::MAX {
         let begun = Instant::now(rt)?;
-        match ask_states_once(rt, alloc, socket, patience.left) {
+        match ask_states_once(rt, alloc, socket, patience.time_of_try()) {
             Err(fault) => await_room(rt, fault, begun, &mut patience)?,
             asked => return asked,
         }

@@ -1,7 +1,7 @@
 //! How long a tool goes on trying, where the server has no room for it or ends the connection. Between two tries it makes a pause, which grows.
 //! Times are in milliseconds.
 ghost use Rattle.std.specs.Prelude.{◌≡◌, is_none};
-ghost use Rattle.s6_tools.specs.Patience.{first_pause, time_of_wait, timeout_within, pause_of, after_pause, left_after};
+ghost use Rattle.s6_tools.specs.Patience.{first_pause, time_of_wait, timeout_within, time_of_try, pause_of, after_pause, left_after};
 
 /// How long a tool first waits before it tries again, in milliseconds.
 pub const FIRST_PAUSE: u64 = 20;
@@ -11,6 +11,9 @@ pub const LONGEST_PAUSE: u64 = 500;
 
 /// How long a tool that doesn't wait for services goes on trying, in milliseconds.
 pub const TRY_TIME: u64 = 10_000;
+
+/// How long a try takes at least before it is given up, in milliseconds: a busy server says so within 250.
+pub const SHORTEST_TRY: u64 = 500;
 
 /// How long a tool goes on trying where the server is busy. The first pause is 20 milliseconds; each is twice as long as the one before, up
 /// to half a second.
@@ -51,6 +54,16 @@ impl Patience {
         match self.left {
             None => 0,
             Some(left) => left.clamp(1, 4_294_967_295) as u32,
+        }
+    }
+
+    /// How long the next try may take, in milliseconds: what is left, but at least half a second. None where there is no end.
+    pub fn time_of_try(&self) -> Option<u64>
+        ensures { result ≡ time_of_try self.now.left }
+    {
+        match self.left {
+            None => None,
+            Some(left) => Some(left.max(SHORTEST_TRY)),
         }
     }
 

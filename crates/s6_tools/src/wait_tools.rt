@@ -3,7 +3,7 @@ ghost use Rattle.std.specs.Prelude.{◌≡◌};
 ghost use Rattle.s6_tools.specs.Endings.{status_of_outcome};
 
 use crate::answer::{Answer, Outcome};
-use crate::connection::{ToolConnection, ask_once, await_room};
+use crate::connection::{ToolConnection, ask_once, await_room, millis_since};
 use crate::misuse::Misuse;
 use crate::patience::Patience;
 use crate::request::wait_request;
@@ -29,6 +29,13 @@ fn status_of(outcome: Outcome) -> u8
 /// How long after its timeout the verdict of a wait may still come, in milliseconds; then the server counts as one that doesn't answer.
 const VERDICT_TIME: u64 = 250;
 
+// Within how many milliseconds the verdict of a wait comes; None where the wait has no end.
+fn time_of_verdict(patience: &Patience) -> Option<u64> {
+    patience
+        .left
+        .map(|left| left.saturating_add(VERDICT_TIME))
+}
+
 // Has the server make a waiter, and returns once its reply has come. While the server has no room for it, it is asked again, with what is left of
 // the timeout. None where the time was up before.
 fn subscribe<R: Net + Clock>(
@@ -42,9 +49,12 @@ fn subscribe<R: Net + Clock>(
         let begun = Instant::now(rt)?;
         command.timeout = patience.timeout_left();
         let request = wait_request(alloc, command)?;
-        let at_most = patience.left.map(|left| left.saturating_add(VERDICT_TIME));
+        let at_most = time_of_verdict(patience);
         match ask_once(rt, alloc, socket, request.as_slice(), at_most) {
-            Ok((connection, Answer::Waiter)) => return Ok(Some(connection)),
+            Ok((connection, Answer::Waiter)) => {
+                patience.pass(millis_since(rt, begun));
+                return Ok(Some(connection));
+            }
             // No server gives another answer to this request.
             Ok(_) => return Err(ToolFault::Socket),
             Err(ToolFault::NoAnswer) => return Ok(None),
@@ -61,10 +71,18 @@ fn subscribe<R: Net + Clock>(
     Ok(None)
 }
 
-// Waits until the waiter of this connection is released. Returns the outcome; `Ended` where the connection ends before, `Socket` where another line
-// comes. A server that doesn't tell the verdict in time counts as one whose wait timed out.
-fn await_release(connection: &mut ToolConnection) -> Result<Outcome, ToolFault> {
-    match connection.answer() {
+// Waits until the waiter of this connection is released, for as long as the patience lasts. Returns the outcome; `Ended` where the connection ends
+// before, `Socket` where another line comes. A server that doesn't tell the verdict in time counts as one whose wait timed out.
+fn await_release<R: Clock>(
+    rt: &R,
+    connection: &mut ToolConnection,
+    patience: &mut Patience,
+) -> Result<Outcome, ToolFault> {
+    let begun = Instant::now(rt)?;
+    connection.bound(time_of_verdict(patience))?;
+    let answer = connection.answer();
+    patience.pass(millis_since(rt, begun));
+    match answer {
         Ok(Answer::Released(outcome)) => Ok(outcome),
         Ok(_) => Err(ToolFault::Socket),
         Err(ToolFault::NoAnswer) => Ok(Outcome::TimedOut),
@@ -81,7 +99,7 @@ fn wait_once<R: Net + Clock>(
     patience: &mut Patience,
 ) -> Result<Outcome, ToolFault> {
     match subscribe(rt, alloc, socket, command, patience)? {
-        Some(mut connection) => await_release(&mut connection),
+        Some(mut connection) => await_release(rt, &mut connection, patience),
         None => Ok(Outcome::TimedOut),
     }
 }
@@ -97,13 +115,15 @@ pub fn run_svwait<R: Net + Clock>(
     let mut command = compile_svwait(alloc, words)?;
     let mut patience = Patience::of_wait(command.timeout);
     for _ in 0..u64::MAX {
-        let begun = Instant::now(rt)?;
         match wait_once(rt, alloc, socket, &mut command, &mut patience) {
-            // Where no pause is left, the time is up.
-            Err(ToolFault::Ended) => match await_room(rt, ToolFault::Ended, begun, &mut patience) {
-                Ok(()) => {}
-                Err(_) => return Ok(status_of(Outcome::TimedOut)),
-            },
+            Err(ToolFault::Ended) => {
+                // The patience has counted what this took.
+                let now = Instant::now(rt)?;
+                if await_room(rt, ToolFault::Ended, now, &mut patience).is_err() {
+                    // No pause is left: the time is up.
+                    return Ok(status_of(Outcome::TimedOut));
+                }
+            }
             Err(fault) => return Err(fault),
             Ok(outcome) => return Ok(status_of(outcome)),
         }
@@ -128,7 +148,7 @@ pub fn run_svlisten<R: Net + Processes + Clock>(
         return Ok(status_of(Outcome::TimedOut));
     };
     start_program(rt, alloc, command.program)?;
-    Ok(status_of(await_release(&mut connection)?))
+    Ok(status_of(await_release(rt, &mut connection, &mut patience)?))
 }
 
 // Starts a program: its name first, then its arguments.

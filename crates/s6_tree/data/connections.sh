@@ -95,6 +95,18 @@ for number in $(seq 11); do
 done
 whether 'all have left again' soon has_at_most $before
 
+# Sixteen that come together and wait a moment: each wait that is made has its verdict. Whoever finds no seat is told `busy`.
+for number in $(seq 16); do
+    { echo 'wait D a 300 web' && sleep 1; } | connect >"$root/brief$number" &
+    briefs="$briefs $!"
+done
+wait $briefs
+cat "$root"/brief* >"$root/briefs"
+whether 'brief waits are made' grep -q '^wait ' "$root/briefs"
+whether 'none of them is lost' [ "$(grep -c '^wait ' "$root/briefs")" = "$(grep -c '^r [0-9]* timedout$' "$root/briefs")" ]
+say 'other answers' "$(grep -v '^wait \|^r \|^busy$\|^refused Busy$' "$root/briefs" | joined)"
+whether 'all have left once more' soon has_at_most $before
+
 # A waiter that holds at once, and 64 that wait, on one connection: the last of these gets the place of the first. One more is refused.
 open many
 {

@@ -48,6 +48,16 @@ exec 4>&-
 tell svc -u plain
 tell svwait -u -t 3000 plain
 
+# A finish that is being written is tried again, also where the service is to be down meanwhile.
+write plain finish 'echo cleared >cleared'
+exec 4>>plain/finish
+tell svc -d plain
+sleep 0.3
+tell svc -d plain
+exec 4>&-
+tell svwait -D -t 3000 plain
+whether 'its finish has run' [ -s plain/cleared ]
+
 # An interpreter that isn't there, with readiness and without.
 for name in told untold; do
     write $name run ''

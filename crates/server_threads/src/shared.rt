@@ -77,9 +77,9 @@ impl Shared {
     pub fn note_act<R: Wait>(&self, rt: &R, act: &Act<Global>) {
         match act {
             Act::Svc(name, letters) if take_down(letters.as_slice()) => {
-                self.end_starts(rt, &Unwanted::Service(*name));
+                self.end_starts(rt, &Unwanted::Run(*name));
             }
-            Act::Scanctl(ScanOrder::Terminate) => self.end_starts(rt, &Unwanted::All),
+            Act::Scanctl(ScanOrder::Terminate) => self.end_starts(rt, &Unwanted::EachRun),
             _ => {}
         }
     }

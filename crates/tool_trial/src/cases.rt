@@ -52,7 +52,8 @@ permafailon web 60 3 1-2,KILL
 permafailon web 60 3 none
 permafailon log 60 3 1
 svstat -o up late
-svc -u late";
+svc -u late
+svc -d odd";
 
 /// Runs a server on this path and each client beside it. The outcomes are written line by line.
 pub fn try_all<R: Net + Files + Processes + Threads + Wait + Clock + Sync>(

@@ -28,7 +28,8 @@ unread broken NoRun\n\n\
 #subscribe dir queue once b$=sub 1\n\nm 1 b\n\n\
 #subscribe svc web once u.*u=sub 2\n\nm 2 overlong\n\n\
 #permafailon web 60 3 1-2,SIGKILL=permafail 125\n\n\
-#status late=row 3 late true true true false false 7 -1 -1 1 -1\n\n";
+#status late=row 3 late true true true false false 7 -1 -1 1 -1\n\n\
+#svc odd d=hello\n\n";
 
 /// The requests at which the connection ends without an answer: the first only the first time that it comes.
 const ENDS_ONCE: &[u8] = b"status late";
