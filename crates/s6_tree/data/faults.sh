@@ -29,6 +29,8 @@ whether 'the record is legal' "$program" replay --check <"$root/record"
 # A run that is being written when it is to start: the start is tried again. What it can't be is told, and a `d` ends the trying.
 stage moment
 write plain run 'exec sleep 1000'
+write tidy run 'exec sleep 1000'
+write tidy finish 'echo cleared >cleared'
 start
 tell svwait -u plain
 exec 4>>plain/run
@@ -49,14 +51,15 @@ tell svc -u plain
 tell svwait -u -t 3000 plain
 
 # A finish that is being written is tried again, also where the service is to be down meanwhile.
-write plain finish 'echo cleared >cleared'
-exec 4>>plain/finish
-tell svc -d plain
+tell svwait -u tidy
+exec 4>>tidy/finish
+tell svc -d tidy
+tell svwait -d tidy
+tell svc -d tidy
 sleep 0.3
-tell svc -d plain
 exec 4>&-
-tell svwait -D -t 3000 plain
-whether 'its finish has run' [ -s plain/cleared ]
+tell svwait -D -t 3000 tidy
+whether 'its finish has run' [ -s tidy/cleared ]
 
 # An interpreter that isn't there, with readiness and without.
 for name in told untold; do
