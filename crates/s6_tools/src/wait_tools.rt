@@ -31,9 +31,7 @@ const VERDICT_TIME: u64 = 250;
 
 // Within how many milliseconds the verdict of a wait comes; None where the wait has no end.
 fn time_of_verdict(patience: &Patience) -> Option<u64> {
-    patience
-        .left
-        .map(|left| left.saturating_add(VERDICT_TIME))
+    patience.left.map(|left| left.saturating_add(VERDICT_TIME))
 }
 
 // Has the server make a waiter, and returns once its reply has come. While the server has no room for it, it is asked again, with what is left of
