@@ -1,8 +1,8 @@
 #!/usr/bin/env python3
 """Makes manual pages and completion files from the help texts of the program.
 
-    S6_TREE=PROGRAM python3 examples/manual.py [OUT]      writes OUT/man/*.1 and OUT/completion/*; OUT is docs
-    S6_TREE=PROGRAM python3 examples/manual.py --check    compares those in docs; status 1 where one is stale
+    S6_TREE=PROGRAM python3 tools/manual.py [OUT]      writes OUT/man/*.1 and OUT/completion/*; OUT is docs
+    S6_TREE=PROGRAM python3 tools/manual.py --check    compares those in docs; status 1 where one is stale
 
 A help text has a line `usage: ..`, paragraphs, and sections: a word and a colon, then indented lines. Words of a section that stand
 two spaces in and begin with a dash are options.
@@ -58,7 +58,7 @@ def options(text):
 
 def bash(texts):
     cases = "".join(f"        {name}) words='{' '.join([option for option, _, _ in options(text)] + ['--help'])}' ;;\n" for name, _, text in texts)
-    return f"""# Completion of s6_tree for bash. Made by examples/manual.py: change the help texts, not this file.
+    return f"""# Completion of s6_tree for bash. Made by tools/manual.py: change the help texts, not this file.
 _s6_tree() {{
     local word=${{COMP_WORDS[COMP_CWORD]}} words=
     if [ "$COMP_CWORD" = 1 ]; then
@@ -87,7 +87,7 @@ def zsh(texts):
         f"        {name}) _arguments {''.join(zsh_option(*option) + ' ' for option in options(text))}'--help[print the help text]' '*:file:_files' ;;\n"
         for name, _, text in texts)
     return f"""#compdef s6_tree
-# Completion of s6_tree for zsh. Made by examples/manual.py: change the help texts, not this file.
+# Completion of s6_tree for zsh. Made by tools/manual.py: change the help texts, not this file.
 _s6_tree() {{
     local -a tools=(
         'help:print the help text of a tool'
@@ -132,7 +132,7 @@ def check(files):
     stale = sorted(path for path, text in files.items() if read(f"{TOP}/docs/{path}") != text)
     there = {f"{folder}/{name}" for folder in ("man", "completion") for name in os.listdir(f"{TOP}/docs/{folder}")}
     for path in stale + sorted(there - set(files)):
-        print(f"docs/{path} is stale: run S6_TREE=PROGRAM python3 examples/manual.py")
+        print(f"docs/{path} is stale: run S6_TREE=PROGRAM python3 tools/manual.py")
     sys.exit(1 if stale or there - set(files) else 0)
 
 

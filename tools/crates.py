@@ -79,7 +79,7 @@ def main():
     if before != after and sys.argv[1:] == ["--write"]:
         open(PAGE, "w").write(after)
     elif before != after:
-        faults.append("%s: its picture or a table is not as crates.txt has it: python3 examples/crates.py --write" % PAGE)
+        faults.append("%s: its picture or a table is not as crates.txt has it: python3 tools/crates.py --write" % PAGE)
     faults += ["%s: a row of the picture is too long: %s" % (PAGE, it) for it in picture(found, uses) if len(it) > COLUMNS]
     print("\n".join(faults) or "crates: the picture and the tables are as crates.txt has them")
     return 1 if faults else 0

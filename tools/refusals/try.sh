@@ -2,7 +2,7 @@
 # Runs the trial of refused memory once for each growth that it asks for, which is refused then. Each run has to print what it prints with
 # ample memory, within a minute. How its threads take turns changes the number of growths a little from run to run. It needs a C compiler: CC, or cc.
 #
-#   examples/refusals/try.sh [PROGRAM]
+#   tools/refusals/try.sh [PROGRAM]
 cd "$(dirname "$0")/../.." || exit 111
 program=${1:-$PWD/crates/refusal_trial/out/refusal_trial}
 case $program in /*) ;; *) program=$PWD/$program ;; esac
@@ -10,7 +10,7 @@ compiler=${CC:-cc}
 command -v "${compiler%% *}" >/dev/null || { echo "refusals: no C compiler $compiler: set CC"; exit 1; }
 folder=$(mktemp -d) || exit 111
 trap 'rm -rf "$folder"' EXIT
-$compiler -O1 -shared -fPIC -o "$folder/refuse.so" examples/refusals/refuse.c -ldl || exit 111
+$compiler -O1 -shared -fPIC -o "$folder/refuse.so" tools/refusals/refuse.c -ldl || exit 111
 
 # Runs it with one growth refused; with 0, none. One that waits for what was lost is ended after a minute.
 run() {

@@ -1,7 +1,7 @@
 #!/usr/bin/env python3
 """Runs what the pages show, and compares what it prints with what they say.
 
-    S6_TREE=PROGRAM python3 examples/pages.py [PAGE..]
+    S6_TREE=PROGRAM python3 tools/pages.py [PAGE..]
 
 A line for each block that can be run: `ok PAGE:LINE`, `skipped PAGE:LINE: WHY` or `failed PAGE:LINE: ..`. Status 1 where one failed. Other
 blocks, as tables that a tool prints, are passed over.
