@@ -50,7 +50,7 @@ def below(program, uses):
 def files_of(name):
     """The files of a crate that a check reads."""
     for folder, folders, files in os.walk(os.path.join("crates", name)):
-        folders[:] = sorted(it for it in folders if it not in ("out", "must-fail", "data"))
+        folders[:] = sorted(it for it in folders if it not in ("out", "must-fail", "wrong-bodies", "data"))
         yield from (os.path.join(folder, it) for it in sorted(files))
 
 

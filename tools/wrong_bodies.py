@@ -3,9 +3,10 @@
 
     wrong_bodies.py [--minutes N] [CRATE | CRATE/NAME]..
 
-Without names, those that rt ci passes by: crates/CRATE/must-fail/NAME.edit.md. One has lines 'file:', 'old:' and 'new:', as rt must-fail reads
-them in NAME.edit, and a line 'only:' with the function whose promise it breaks. The change is made in a copy of the crate, and that function is checked there with those
-that it calls (rattle check --only), over the libraries that rt ci, or rt lib in each crate, left in out/rlib.
+Without names, those that rt ci passes by: crates/CRATE/wrong-bodies/NAME.body. One has lines 'file:', 'old:' and 'new:', as rt must-fail reads
+them in crates/CRATE/must-fail/NAME.edit, and a line 'only:' with the function whose promise it breaks. With names, the edits that have such a line are
+tried so too. The change is made in a copy of the crate, and that function is checked there with those that it calls (rattle check --only), over the
+libraries that rt ci, or rt lib in each crate, left in out/rlib.
 
 What is proved of a function rests on what others promise, and not on their bodies. So wrong bodies of different functions are tried
 together, and alone where the change isn't in one body. One is refused where the prover reads it and finds no proof of that function.
@@ -183,7 +184,8 @@ def usable_processors():
 
 def wanted(names):
     """The wrong bodies of these crates, or of these names; those that rt ci passes by where there is none."""
-    bodies = [WrongBody(path) for path in sorted(glob.glob("crates/*/must-fail/*" + (".edit*" if names else ".edit.md")))]
+    paths = glob.glob("crates/*/wrong-bodies/*.body") + (glob.glob("crates/*/must-fail/*.edit") if names else [])
+    bodies = [WrongBody(path) for path in sorted(paths)]
     return [body for body in bodies if body.only and (not names or body.crate in names or body.label in names)]
 
 
