@@ -1,5 +1,5 @@
 #!/usr/bin/env python3
-"""Makes the picture and the tables of crates in docs/ARCHITECTURE.md of crates.txt.
+"""Makes the picture and the tables of crates in docs/ARCHITECTURE.md of crates.txt, and counts the wrong bodies in the table of docs/CLAIMS.md.
 
     crates.py            compares them, and tells what differs; the status is 1 where something does
     crates.py --write    writes them
@@ -7,9 +7,10 @@
 A line `# WORD` of crates.txt heads the crates of a layer, lowest layer first. In the picture the highest stands on top, each crate above all that it uses.
 A table has the crates of its page's part in the order of crates.txt; what each of them owns is told by the page alone.
 """
-import os, re, sys
+import glob, os, re, sys
 
 PAGE = "docs/ARCHITECTURE.md"
+CLAIMS = "docs/CLAIMS.md"
 # The layer that the picture leaves out.
 TESTS = "tests"
 # The most columns of a row of the picture.
@@ -68,18 +69,34 @@ def made(text, found, uses):
     return re.sub(r"(\| crate \| what it (?:owns|tests) \|\n\|---\|---\|\n)((?:\| `.*\n)+)", table, text), told
 
 
+def counted(text):
+    """The page of claims with the number of wrong bodies in each row, and the crates that its rows have."""
+    told = []
+
+    def row(match):
+        names = re.findall(r"`(\w+)`", match.group(2))
+        told.extend(names)
+        bodies = [it for name in names for kind in ("must-fail/*.edit", "wrong-bodies/*.body") for it in glob.glob("crates/%s/%s" % (name, kind))]
+        return match.group(1) + str(len(bodies)) + match.group(3)
+
+    return re.sub(r"^(\| (`\w+`(?:, `\w+`)*) \| [^|]+ \| )\d+( \|)", row, text, flags=re.M), told
+
+
 def main():
     os.chdir(os.path.join(os.path.dirname(os.path.abspath(__file__)), ".."))
     found, uses = layers()
-    before = open(PAGE).read()
-    after, told = made(before, found, uses)
+    pages = {page: open(page).read() for page in (PAGE, CLAIMS)}
+    drawn, told = made(pages[PAGE], found, uses)
+    claims, claimed = counted(pages[CLAIMS])
     faults = ["crates.txt: %s stands above %s, which it uses" % it for it in upside_down(found, uses)]
     faults += ["%s: %s has no row that says what it is for" % (PAGE, it) for it in uses if it not in told]
     faults += ["%s: a row tells of %s, which crates.txt has not" % (PAGE, it) for it in told if it not in uses]
-    if before != after and sys.argv[1:] == ["--write"]:
-        open(PAGE, "w").write(after)
-    elif before != after:
-        faults.append("%s: its picture or a table is not as crates.txt has it: python3 tools/crates.py --write" % PAGE)
+    faults += ["%s: %s has no row" % (CLAIMS, it) for it in uses if it not in claimed and it not in found[TESTS]]
+    for page, after in ((PAGE, drawn), (CLAIMS, claims)):
+        if pages[page] != after and sys.argv[1:] == ["--write"]:
+            open(page, "w").write(after)
+        elif pages[page] != after:
+            faults.append("%s: its picture or a table is not as it is to be: python3 tools/crates.py --write" % page)
     faults += ["%s: a row of the picture is too long: %s" % (PAGE, it) for it in picture(found, uses) if len(it) > COLUMNS]
     print("\n".join(faults) or "crates: the picture and the tables are as crates.txt has them")
     return 1 if faults else 0
