@@ -13,7 +13,7 @@ checkout, and 130 after Ctrl-C. No process of it is left afterwards.
 """
 import fcntl, hashlib, os, shutil, signal, subprocess, sys, time
 
-# Seconds of processor that a check takes, by which the next crate is chosen and what is left is reckoned; docs/PROOFS.md has them.
+# Seconds of processor that a check takes, by which the next crate is chosen and what is left is reckoned.
 SECONDS = {
     "s6_events": 60, "control_letters": 20, "servicedir": 50, "death_tally": 30, "svc_commands": 170, "finish_core": 10, "supervise_core": 105,
     "deadlines": 35, "text_matcher": 45, "svscan_core": 210, "event_directory": 300, "wait_conditions": 185, "tree_core": 230,
