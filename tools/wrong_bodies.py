@@ -196,6 +196,9 @@ def main():
     parser.add_argument("names", nargs="*")
     words = parser.parse_args()
     end = time.monotonic() + words.minutes * 60
+    strays = glob.glob("crates/*/must-fail/*.md")
+    if strays:
+        sys.exit("wrong_bodies: a body that is tried by function is wrong-bodies/NAME.body, and not %s" % " ".join(sorted(strays)))
     bodies = wanted(words.names)
     if not bodies:
         sys.exit("wrong_bodies: no such crate, and no such wrong body")
