@@ -8,7 +8,7 @@
 # `s6_tree replay --check < RECORD` once it has ended.
 cd "$(dirname "$0")/.." || exit 111
 if [ -z "$S6_TREE" ]; then
-    python3 examples/prove.py s6_tree || exit
+    python3 tools/prove.py s6_tree || exit
     S6_TREE=$PWD/crates/s6_tree/out/s6_tree
 fi
 SOCKET=${1:-/tmp/s6_tree.socket}

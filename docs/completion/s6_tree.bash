@@ -1,4 +1,4 @@
-# Completion of s6_tree for bash. Made by examples/manual.py: change the help texts, not this file.
+# Completion of s6_tree for bash. Made by tools/manual.py: change the help texts, not this file.
 _s6_tree() {
     local word=${COMP_WORDS[COMP_CWORD]} words=
     if [ "$COMP_CWORD" = 1 ]; then
