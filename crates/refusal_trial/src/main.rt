@@ -1,5 +1,5 @@
 //! Prints the same whether memory is refused once or not at all: what was refused is asked for again. With the word `count` it prints how often
-//! memory was refused, too. `examples/refusals/try.sh` runs it once for each growth, which is refused then.
+//! memory was refused, too. `tools/refusals/try.sh` runs it once for each growth, which is refused then.
 #![tactic(auto)]
 
 mod acts;

@@ -117,7 +117,7 @@ wrong svcheck ''
 wrong connect ''
 wrong svstat '' -o up web
 
-# What the help texts say: where this changes, examples/manual.py is to be run, which makes the manual pages and the completion of them.
+# What the help texts say: where this changes, tools/manual.py is to be run, which makes the manual pages and the completion of them.
 texts() {
     "$program" --help
     for tool in $("$program" --help | sed -n '/^tools:/,/^$/s/^  \([a-z-]*\) .*/\1/p'); do
