@@ -1,6 +1,7 @@
 //! The commands of the script.
 use crate::stage::Stage;
 use child_runner::ShellProbe;
+use std::fs::File;
 use std::io::{self, ErrorKind};
 use std::process::{Processes, SystemProcess};
 use std::rt::Files;
@@ -31,7 +32,7 @@ pub fn number_of(word: &str) -> io::Result<u64> {
 impl<
     R: Print
         + Processes<Started = SystemProcess>
-        + Files
+        + Files<File = File>
         + Threads
         + Wait
         + Clock

@@ -3,6 +3,7 @@ use child_runner::{Bell, LinkedBackend, ProcessBackend};
 use order_lanes::{Backend, Report};
 use s6_events::Order;
 use std::alloc::Global;
+use std::fs::File;
 use std::process::{Processes, SystemProcess};
 use std::rt::Files;
 use std::sync::{Arc, Wait};
@@ -26,7 +27,7 @@ pub struct Lane<R> {
     pub bell: Arc<Bell, Global>,
 }
 
-impl<R: Processes<Started = SystemProcess> + Files + Wait + Clock + Drop> Lane<R> {
+impl<R: Processes<Started = SystemProcess> + Files<File = File> + Wait + Clock + Drop> Lane<R> {
     /// Asks an order. Whether it was taken.
     pub fn ask(&mut self, order: Order) -> bool {
         match &mut self.carrier {

@@ -3,6 +3,7 @@ use crate::commands::{cut, number_of};
 use crate::stage::Stage;
 use error_notes::{NoteWriter, Notes, start_notes, write_notes};
 use std::alloc::Global;
+use std::fs::File;
 use std::io::{self, PipeReader, Read, Write};
 use std::process::Processes;
 use std::rt::Files;
@@ -56,7 +57,9 @@ impl<R: Print + Processes + Wait> Stage<R> {
     }
 }
 
-impl<R: Print + Files + Threads + Wait + Clock + Copy + Send + Sync + Drop + 'static> Stage<R> {
+impl<
+    R: Print + Files<File = File> + Threads + Wait + Clock + Copy + Send + Sync + Drop + 'static,
+> Stage<R> {
     /// A thread writes notes to a pipe; a line that came in parts is whole.
     pub fn try_thread(&self) -> io::Result<()> {
         let (mut reader, writer) = io::pipe(&self.rt)?;

@@ -2,6 +2,7 @@
 use crate::commands::{cut, number_of};
 use crate::stage::Stage;
 use s6_events::{Name, Order, Sid};
+use std::fs::File;
 use std::io::{self, ErrorKind};
 use std::process::{Processes, SystemProcess};
 use std::rt::Files;
@@ -39,7 +40,9 @@ fn range_of(services: &str) -> io::Result<(u64, u64)> {
     Ok((number_of(first)?, number_of(last)?))
 }
 
-impl<R: Print + Processes<Started = SystemProcess> + Files + Wait + Clock + Drop> Stage<R> {
+impl<
+    R: Print + Processes<Started = SystemProcess> + Files<File = File> + Wait + Clock + Drop,
+> Stage<R> {
     /// Asks an order for each of some services, and prints which are refused.
     pub fn ask_all(&mut self, verb: &str, words: &str) -> io::Result<()> {
         let (services, words) = cut(words);

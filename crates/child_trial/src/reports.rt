@@ -3,6 +3,7 @@ use crate::commands::{cut, number_of};
 use crate::stage::Stage;
 use crate::words::line_of;
 use std::fmt::Write;
+use std::fs::File;
 use std::io;
 use std::process::{Processes, SystemProcess};
 use std::rt::Files;
@@ -15,7 +16,9 @@ const PATIENCE: u64 = 30_000;
 /// The most reports of a command.
 const LIMIT: u64 = 1000;
 
-impl<R: Print + Processes<Started = SystemProcess> + Files + Wait + Clock + Drop> Stage<R> {
+impl<
+    R: Print + Processes<Started = SystemProcess> + Files<File = File> + Wait + Clock + Drop,
+> Stage<R> {
     // The next report, in words, or that none came in time.
     fn next_line(&mut self, millis: u64) -> io::Result<String> {
         match self.next_report(millis) {

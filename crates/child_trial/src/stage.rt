@@ -6,6 +6,7 @@ use error_notes::Notes;
 use order_lanes::Report;
 use s6_events::Order;
 use std::alloc::{AllocError, Global};
+use std::fs::File;
 use std::io::{self, ErrorKind};
 use std::process::{Command, Processes, SystemProcess};
 use std::rt::Files;
@@ -111,7 +112,7 @@ impl<R: Processes> Stage<R> {
     }
 }
 
-impl<R: Processes<Started = SystemProcess> + Files + Wait + Clock + Drop> Stage<R> {
+impl<R: Processes<Started = SystemProcess> + Files<File = File> + Wait + Clock + Drop> Stage<R> {
     /// Asks the chosen backend an order. Whether it was taken.
     pub fn ask(&mut self, order: Order) -> bool {
         match self.lanes.get_mut(self.chosen) {
