@@ -21,14 +21,7 @@ mod tree_talk;
 
 use attempts::Attempts;
 use std::alloc::Global;
-use std::fs::File;
 use std::io::Write;
-use std::net::Net;
-use std::process::Processes;
-use std::rt::Files;
-use std::sync::Wait;
-use std::thread::Threads;
-use std::time::Clock;
 use std::{env, fs, io, process};
 use tree_places::Places;
 
@@ -48,9 +41,7 @@ fn is_counting(rt: &HostRuntime) -> bool {
 }
 
 // All parts of the trial.
-fn try_all<
-    R: Wait + Net + Processes + Clock + Files<File = File> + Threads + Copy + Sync + Send + Drop,
->(rt: &R, alloc: Global, folders: &Folders, attempts: &mut Attempts) {
+fn try_all(rt: &HostRuntime, alloc: Global, folders: &Folders, attempts: &mut Attempts) {
     attempts.make("requests", |text| requests::read_all(alloc, text));
     attempts.make(
         "scan",
@@ -66,12 +57,7 @@ fn try_all<
 }
 
 // The part that runs a tree.
-fn run_tree<R: Wait + Net + Clock + Files<File = File> + Threads + Copy + Sync + Send + Drop>(
-    rt: &R,
-    alloc: Global,
-    places: &Places,
-    attempts: &mut Attempts,
-) {
+fn run_tree(rt: &HostRuntime, alloc: Global, places: &Places, attempts: &mut Attempts) {
     let mut refusals = 0;
     attempts.make(
         "tree",

@@ -70,6 +70,14 @@ fn was_refused(found: &Found) -> bool {
         .any(|remark| remark.fault == DirFault::NoMemory)
 }
 
+// Tells what was read of a service.
+fn tell_entry(name: &str, entry: &Entry, text: &mut Text) {
+    let _ = match &entry.config {
+        Some(config) => writeln!(text, "{name}: {config:?}"),
+        None => writeln!(text, "{name}: listed as unread"),
+    };
+}
+
 // Directories give names in any order: each is looked for.
 fn tell_found(found: &Found, text: &mut Text) {
     for name in ["web", "empty", ".hidden", "no name"].iter() {
@@ -78,24 +86,16 @@ fn tell_found(found: &Found, text: &mut Text) {
             .entries()
             .iter()
             .find(|entry| entry.name.as_bytes() == name.as_bytes());
-        let _ = match entry {
-            Some(
-                Entry {
-                    config: Some(config),
-                    ..
-                },
-            ) => writeln!(text, "{name}: {config:?}"),
-            Some(_) => writeln!(text, "{name}: listed as unread"),
-            None => writeln!(text, "{name}: not listed"),
-        };
+        match entry {
+            Some(entry) => tell_entry(name, entry, text),
+            None => {
+                let _ = writeln!(text, "{name}: not listed");
+            }
+        }
     }
-    for Remark {
-        name,
-        fault,
-        is_unread,
-    } in found.remarks.iter() {
+    for Remark { name, fault } in found.remarks.iter() {
         let name = str::from_utf8(name.as_bytes()).unwrap_or("?");
-        let _ = writeln!(text, "{name}: {fault:?}, unread {is_unread}");
+        let _ = writeln!(text, "{name}: {fault:?}");
     }
 }
 

@@ -175,8 +175,8 @@ fn new_server<R: Files>(
 }
 
 /// Runs a tree from its first scan to its end, and tells what a client read, and what is in the record. `NoMemory` where it could not begin to run.
-pub fn run_tree<R: Net + Files<File = File> + Threads + Wait + Clock + Copy + Sync + Send + Drop>(
-    rt: &R,
+pub fn run_tree(
+    rt: &HostRuntime,
     alloc: Global,
     places: &Places,
     text: &mut Text,
@@ -216,19 +216,16 @@ pub fn run_tree<R: Net + Files<File = File> + Threads + Wait + Clock + Copy + Sy
 }
 
 // Starts all threads, the driver last. Whether all run.
-fn start_all<'s, S, R>(
+fn start_all<'s, S>(
     scope: &Scope<'s, S>,
-    rt: &'s R,
+    rt: &'s HostRuntime,
     server: &'s Server<Shared>,
     places: &'s Places,
     workers: Vec<FakeWorker>,
-    driver: DriverParts<R>,
+    driver: DriverParts<HostRuntime>,
     end: &'s Mutex<TreeEnd>,
     notes: &'s Notes,
-) -> bool
-where
-    R: Net + Files<File = File> + Threads + Wait + Clock + Copy + Sync + Send + Drop,
-{
+) -> bool {
     for (link, worker) in server.answers().lanes.iter().zip(workers) {
         if !start_lane(scope, rt, server.answers(), link, worker) {
             return false;
@@ -258,10 +255,10 @@ fn carry_out<R: Wait + Clock>(rt: &R, shared: &Shared, link: &LaneLink, worker: 
     serve_lane(rt, link, &shared.driver, &mut worker);
 }
 
-// Starts the thread that reads the scan directory. Whether it runs.
-fn start_reader<'s, S, R: Files + Threads + Wait + Copy + Sync + Drop>(
+// Starts the thread that reads the scan directory. Whether it runs. The runtime's own type is named, since what reads files goes to no thread by a bound.
+fn start_reader<'s, S>(
     scope: &Scope<'s, S>,
-    rt: &'s R,
+    rt: &'s HostRuntime,
     shared: &'s Shared,
     places: &'s Places,
     notes: &'s Notes,

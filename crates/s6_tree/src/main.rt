@@ -6,7 +6,7 @@ ghost use Rattle.std.specs.Prelude.{◌≤◌};
 use std::env;
 use std::env::Env;
 use std::process::ExitCode;
-use tree_front::{Begun, BegunTree, Standard, begin_program, end_program};
+use tree_front::{Begun, BegunTree, LimitedErrors, Standard, begin_program, end_program};
 use tree_server::{HANDOVER, run_tree};
 
 // After how many steps a run of the tree ends, and the next goes on from its tree: the number in the environment variable S6_TREE_HANDOVER. It is
@@ -31,12 +31,12 @@ fn handover<R: Env + Alloc>(rt: &R) -> u64
 // them, `notes` are lines for standard error, and `probe` is the try whether there is a shell. Then the tree runs to its end.
 fn main(rt: HostRuntime) -> ExitCode {
     let alloc = rt.alloc();
-    // What the program reads and writes. Standard error is there twice: once for the thread that writes the notes.
+    // What the program reads and writes. Standard error is there twice: once for the thread that writes the notes. A limit of a file's size is kept.
     let standard = Standard {
         input: rt.stdin(),
         output: rt.stdout(),
-        errors: rt.stderr(),
-        notes_output: rt.stderr(),
+        errors: LimitedErrors::new(rt, alloc, rt.stderr()),
+        notes_output: LimitedErrors::new(rt, alloc, rt.stderr()),
     };
     let BegunTree {
         place,

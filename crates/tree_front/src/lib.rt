@@ -16,5 +16,6 @@ mod program;
 mod socket_trouble;
 mod usage;
 
+pub use limited_errors::LimitedErrors;
 pub use place::TreePlace;
 pub use program::{Begun, BegunTree, Standard, begin_program, end_program};

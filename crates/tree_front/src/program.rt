@@ -3,7 +3,6 @@ use crate::connection::run_connection;
 use crate::descriptors::open_standard;
 use crate::front::{Asked, run_words};
 use crate::ignored_signals::{ignored_signals, is_child_ignored, tell_ignored};
-use crate::limited_errors::LimitedErrors;
 use crate::place::TreePlace;
 use crate::socket_trouble::tell_fault;
 use child_runner::{Keeper, ShellProbe};
@@ -133,8 +132,7 @@ pub fn begin_program<
 
 // All that a tree needs before it runs. `Thread` where a thread can't be started, `NoMemory` where memory for the lanes is refused.
 fn begin_tree<
-    R: Files<File = File>
-        + Processes<Started = SystemProcess>
+    R: Processes<Started = SystemProcess>
         + Threads
         + Wait
         + Clock
@@ -148,8 +146,7 @@ fn begin_tree<
     // The shell that is tried runs beside what follows; `run_tree` asks how it ended.
     let probe = ShellProbe::start(&rt, alloc);
     // The thread that writes the notes.
-    let errors = LimitedErrors::new(rt, alloc, notes_output);
-    let Some(notes) = start_notes(rt, alloc, errors) else {
+    let Some(notes) = start_notes(rt, alloc, notes_output) else {
         return Err(ServeFault::Thread);
     };
     let Ok(keeper) = Keeper::start(rt, alloc) else {
