@@ -21,9 +21,17 @@ mod tree_talk;
 
 use attempts::Attempts;
 use std::alloc::Global;
+use std::fs::File;
 use std::io::Write;
+use std::net::Net;
+use std::process::Processes;
+use std::rt::Files;
+use std::sync::Wait;
+use std::thread::Threads;
+use std::time::Clock;
 use std::{env, fs, io, process};
 use tree_places::Places;
+use tree_run::{FileReader, ScanReader};
 
 // The path of a folder for this run alone.
 fn folder_of(rt: &HostRuntime) -> io::Result<String> {
@@ -41,7 +49,10 @@ fn is_counting(rt: &HostRuntime) -> bool {
 }
 
 // All parts of the trial.
-fn try_all(rt: &HostRuntime, alloc: Global, folders: &Folders, attempts: &mut Attempts) {
+fn try_all<
+    K: ScanReader + Copy + Send + Drop,
+    R: Wait + Net + Processes + Clock + Files<File = File> + Threads + Copy + Sync + Send + Drop,
+>(rt: &R, reader: K, alloc: Global, folders: &Folders, attempts: &mut Attempts) {
     attempts.make("requests", |text| requests::read_all(alloc, text));
     attempts.make(
         "scan",
@@ -53,15 +64,18 @@ fn try_all(rt: &HostRuntime, alloc: Global, folders: &Folders, attempts: &mut At
     attempts.make("migrate", |text| scripts::migrate_script(alloc, text));
     rows::play_all(alloc, attempts);
     office_run::play(rt, alloc, attempts);
-    run_tree(rt, alloc, &folders.tree, attempts);
+    run_tree(rt, reader, alloc, &folders.tree, attempts);
 }
 
 // The part that runs a tree.
-fn run_tree(rt: &HostRuntime, alloc: Global, places: &Places, attempts: &mut Attempts) {
+fn run_tree<
+    K: ScanReader + Copy + Send + Drop,
+    R: Wait + Net + Clock + Files<File = File> + Threads + Copy + Sync + Send + Drop,
+>(rt: &R, reader: K, alloc: Global, places: &Places, attempts: &mut Attempts) {
     let mut refusals = 0;
     attempts.make(
         "tree",
-        |text| tree_run::run_tree(rt, alloc, places, text, &mut refusals),
+        |text| tree_run::run_tree(rt, alloc, places, reader, text, &mut refusals),
     );
     for _ in 0..refusals {
         attempts.refuse();
@@ -98,7 +112,8 @@ fn main(rt: HostRuntime) -> io::Result<()> {
         Err(_) => prepare(&rt)?,
     };
     let mut attempts = Attempts::new();
-    try_all(&rt, rt.alloc(), &folders, &mut attempts);
+    let reader = FileReader { rt };
+    try_all(&rt, reader, rt.alloc(), &folders, &mut attempts);
     if fs::remove_dir_all(&rt, folders.whole.as_str()).is_err() {
         fs::remove_dir_all(&rt, folders.whole.as_str())?;
     }

@@ -39,6 +39,25 @@ const DRIVER_STACK: usize = 8 * 1024 * 1024;
 /// The stack of each other thread, in bytes.
 const STACK: usize = 1024 * 1024;
 
+/// What reads the scan directory in a thread of its own. What reads files goes there by its own type, and by no bound.
+pub trait ScanReader {
+    /// Reads the directory whenever the driver asks for it, until the tree has ended.
+    fn read_all(&self, shared: &Shared, places: &Places, notes: &Notes);
+}
+
+/// Reads it by the system's files.
+#[derive(Clone, Copy)]
+pub struct FileReader<R> {
+    pub rt: R,
+}
+
+impl<R: Files + Wait + Copy + Drop> ScanReader for FileReader<R> {
+    fn read_all(&self, shared: &Shared, places: &Places, notes: &Notes) {
+        let mut errors = NoteWriter::new(&self.rt, notes);
+        attend(&self.rt, shared, places.services.as_str(), &mut errors);
+    }
+}
+
 /// How a tree has ended, and how many steps its record has.
 #[derive(Clone, Copy)]
 pub struct TreeEnd {
@@ -175,13 +194,17 @@ fn new_server<R: Files>(
 }
 
 /// Runs a tree from its first scan to its end, and tells what a client read, and what is in the record. `NoMemory` where it could not begin to run.
-pub fn run_tree(
-    rt: &HostRuntime,
+pub fn run_tree<K: ScanReader + Send + Drop, R>(
+    rt: &R,
     alloc: Global,
     places: &Places,
+    reader: K,
     text: &mut Text,
     refusals: &mut u32,
-) -> Result<(), NoMemory> {
+) -> Result<(), NoMemory>
+where
+    R: Net + Files<File = File> + Threads + Wait + Clock + Copy + Sync + Send + Drop,
+{
     let Parts {
         server,
         file,
@@ -195,11 +218,14 @@ pub fn run_tree(
         steps: 0,
     });
     let talked = thread::scope(thread::scope_env(), rt, |scope| {
-        if !start_all(scope, rt, &server, places, workers, driver, &end, &notes) {
+        if start_all(scope, rt, &server, workers, driver, &end, &notes)
+            && start_reader(scope, reader, server.answers(), places, &notes)
+        {
+            talk(rt, alloc, places, text)
+        } else {
             end_all(rt, &server);
-            return Talked::none();
+            Talked::none()
         }
-        talk(rt, alloc, places, text)
     });
     file.remove(rt, places.socket.as_str());
     *refusals = refusals.saturating_add(talked.refusals);
@@ -216,13 +242,12 @@ pub fn run_tree(
 }
 
 // Starts all threads, the driver last. Whether all run.
-fn start_all<'s, S>(
+fn start_all<'s, S, R: Threads + Wait + Clock + Copy + Sync + Send + Drop>(
     scope: &Scope<'s, S>,
-    rt: &'s HostRuntime,
+    rt: &'s R,
     server: &'s Server<Shared>,
-    places: &'s Places,
     workers: Vec<FakeWorker>,
-    driver: DriverParts<HostRuntime>,
+    driver: DriverParts<R>,
     end: &'s Mutex<TreeEnd>,
     notes: &'s Notes,
 ) -> bool {
@@ -231,9 +256,7 @@ fn start_all<'s, S>(
             return false;
         }
     }
-    start_reader(scope, rt, server.answers(), places, notes)
-        && start_listener(scope, rt, server, notes)
-        && start_driver(scope, rt, server, driver, end, notes)
+    start_listener(scope, rt, server, notes) && start_driver(scope, rt, server, driver, end, notes)
 }
 
 // Starts the thread of a lane. Whether it runs.
@@ -255,28 +278,18 @@ fn carry_out<R: Wait + Clock>(rt: &R, shared: &Shared, link: &LaneLink, worker: 
     serve_lane(rt, link, &shared.driver, &mut worker);
 }
 
-// Starts the thread that reads the scan directory. Whether it runs. The runtime's own type is named, since what reads files goes to no thread by a bound.
-fn start_reader<'s, S>(
+// Starts the thread that reads the scan directory. Whether it runs.
+fn start_reader<'s, S, K: ScanReader + Send + Drop + 's>(
     scope: &Scope<'s, S>,
-    rt: &'s HostRuntime,
+    reader: K,
     shared: &'s Shared,
     places: &'s Places,
     notes: &'s Notes,
 ) -> bool {
     Builder::new()
         .stack_size(STACK)
-        .spawn_scoped(scope, move || read_all(rt, shared, places, notes))
+        .spawn_scoped(scope, move || reader.read_all(shared, places, notes))
         .is_ok()
-}
-
-fn read_all<R: Files + Wait + Copy + Drop>(
-    rt: &R,
-    shared: &Shared,
-    places: &Places,
-    notes: &Notes,
-) {
-    let mut errors = NoteWriter::new(rt, notes);
-    attend(rt, shared, places.services.as_str(), &mut errors);
 }
 
 // Starts the driver. Whether it runs.
