@@ -23,8 +23,9 @@ is_leaving (IdleSince moment) = false
 is_leaving Needed = false
 is_leaving other = true
 
--- since when nothing more is to be posted to a connection that made way
+-- since when nothing more is to be posted to a connection that has ended or made way
 abbrev pub last_moment : SeatUse → Option ℕ
+last_moment (Leaving moment) = Some moment
 last_moment (Dismissed moment) = Some moment
 last_moment (TurnedAway moment) = Some moment
 last_moment other = None

@@ -167,7 +167,7 @@ fn read_all<W: Answers, R: Wait + Clock>(
         }
     }
     // Its seat will be free soon, for which a new connection may wait.
-    server.note(rt, seat, SeatUse::Leaving);
+    server.note(rt, seat, SeatUse::Leaving(millis_of(rt)));
 }
 
 // Reads what has come, at most 4,096 bytes. False where no more will come, where reading fails, or where memory is refused.

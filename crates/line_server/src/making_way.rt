@@ -5,7 +5,7 @@ ghost use Rattle.line_server.specs.MakingWay.{idle_since, is_leaving, last_momen
 /// For so long after it came a connection keeps its seat, in milliseconds.
 pub const FIRST_TIME: u64 = 100;
 
-/// For so long a dismissed connection may still read its last answers, in milliseconds.
+/// For so long a connection that has ended or made way may still read its last answers where its seat is wanted, in milliseconds.
 pub const LAST_TIME: u64 = 1_000;
 
 /// What the connection of a seat does.
@@ -17,8 +17,8 @@ pub enum SeatUse {
     IdleSince(u64),
     /// A line of it is being answered, or something is still to be told to it.
     Needed,
-    /// It has ended, and its seat will be free.
-    Leaving,
+    /// It asks nothing more since this moment, and its seat will be free once it has read its answers.
+    Leaving(u64),
     /// It made way, and all that it had sent was answered at this moment: its seat will be free once it has read its answers.
     Dismissed(u64),
     /// It made way, and what it had sent before is being answered.
@@ -44,19 +44,20 @@ impl SeatUse {
     {
         match self {
             SeatUse::NewSince(_) | SeatUse::IdleSince(_) | SeatUse::Needed => false,
-            SeatUse::Leaving
+            SeatUse::Leaving(_)
             | SeatUse::Dismissed(_)
             | SeatUse::LastAnswers
             | SeatUse::TurnedAway(_) => true,
         }
     }
 
-    /// Since when nothing more is to be posted to it, if it made way.
+    /// Since when nothing more is to be posted to it, if it has ended or made way: a second later it is ended, if its seat is wanted.
     pub fn last_moment(&self) -> Option<u64>
         ensures { result ≡ last_moment self.now }
     {
         match self {
-            SeatUse::Dismissed(moment) | SeatUse::TurnedAway(moment) => Some(*moment),
+            SeatUse::Leaving(moment) | SeatUse::Dismissed(moment) | SeatUse::TurnedAway(moment) =>
+                Some(*moment),
             _ => None,
         }
     }

@@ -140,7 +140,7 @@ impl Seats {
         now: u64,
         stage: &mut KnockStage,
     ) -> u64 {
-        self.end_dismissed(rt, now);
+        self.end_late(rt, now);
         let is_first = *stage == KnockStage::First;
         if !stage.may_dismiss(self.is_one_leaving()) {
             if is_first {
@@ -190,8 +190,8 @@ impl Seats {
         }
     }
 
-    // Ends each connection that was dismissed, and to which all was answered a second ago or earlier, and which has not read that.
-    fn end_dismissed<R: Wait>(&self, rt: &R, now: u64) {
+    // Ends each connection that has ended or made way, and to which all was answered a second ago or earlier, and which has not read that.
+    fn end_late<R: Wait>(&self, rt: &R, now: u64) {
         for sitting in self.sittings.as_slice().iter().flatten() {
             match sitting.occupant.doing.last_moment() {
                 Some(moment) if now.saturating_sub(moment) >= LAST_TIME => sitting.mailbox.end(rt),
