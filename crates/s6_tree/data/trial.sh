@@ -1,5 +1,7 @@
 # Tries running trees, and prints what comes of them. `trial.sh PROGRAM`: the program under trial. The script is a service of a tree of that
 # program, which it ends when it is done.
+# Signals that are ignored by whoever runs this have their default again: a shell can't do that by itself.
+[ "$2" = again ] || exec env --default-signal=INT,HUP,TERM sh "$0" "$1" again
 program=$1
 scripts=$PWD outer=$PWD/socket server=
 trial=$(mktemp -d) || exit 1
