@@ -104,7 +104,7 @@ kill_with_children() {
     kill -KILL "$1"
 } 2>/dev/null
 
-# Tells svscan to end, until it was told. It can't be told before it has its socket, while all seats are taken, or when it is stopped.
+# Tells svscan to end, until it was told. It can't be told before it has its socket, while all slots are taken, or when it is stopped.
 tell_end() {
     trap '' TERM INT QUIT HUP
     until words=$("$S6_TREE" svscanctl "$SOCKET" -t 2>&1) || [ "$words" = "svscanctl: refused Closing" ]; do

@@ -5,7 +5,7 @@ use arrayvec::ArrayVec;
 use channel_names::Channels;
 use linked_list_allocator::LocalHeap;
 use s6_events::NoMemory;
-use status_board::{BoardReader, BoardWriter, NewBoard, ROW_LIMIT, Shot, StandingRows};
+use status_board::{BoardReader, BoardWriter, NewBoard, SERVICE_LIMIT, Shot, StandingRows};
 use std::alloc::{Allocator, Global};
 use std::marker::Brand;
 use std::process::Abort;
@@ -18,8 +18,8 @@ use supervise_core::Row;
 /// How many shots the writer publishes beside the readers.
 const SHOTS: u64 = 1_000;
 
-// A shot after so many steps, with as many rows as there can be. Each has the number of steps as its age, so that a row of another
-// step is seen.
+// A shot after so many steps, with as many rows as there can be. Each has the number of steps as
+// its age, so that a row of another step is seen.
 fn shot(at: u64) -> Shot {
     let row = Row {
         up_down_for: Some(at),
@@ -27,7 +27,7 @@ fn shot(at: u64) -> Shot {
     };
     Shot {
         at,
-        rows: ArrayVec::from([row; ROW_LIMIT]),
+        rows: ArrayVec::from([row; SERVICE_LIMIT]),
     }
 }
 
@@ -41,7 +41,8 @@ fn small_shot(at: u64) -> Shot {
     Shot { at, rows }
 }
 
-// After how many steps a shot was taken, and how many rows it has; None where there is none, and where a row is of another step.
+// After how many steps a shot was taken, and how many rows it has; None where there is none, and
+// where a row is of another step.
 fn steps_and_rows_of(shot: Option<Shot>) -> Option<(u64, usize)> {
     let shot = shot?;
     let rows = shot.rows.as_slice();
@@ -55,7 +56,7 @@ fn steps_and_rows_of(shot: Option<Shot>) -> Option<(u64, usize)> {
 // After how many steps a shot of as many rows as there can be was taken.
 fn steps_of(shot: Option<Shot>) -> Option<u64> {
     match steps_and_rows_of(shot) {
-        Some((steps, ROW_LIMIT)) => Some(steps),
+        Some((steps, SERVICE_LIMIT)) => Some(steps),
         _ => None,
     }
 }
@@ -104,13 +105,14 @@ fn a_reader_sees_what_it_was_told_of(rt: HostRuntime) {
     tell_and_read::<Brand, _>(&rt, rt.alloc(), NewBoard::new())
 }
 
-// Shots of one row and of as many as there can be are published in turn, and each is read once it was told of.
+// Shots of one row and of as many as there can be are published in turn, and each is read once it
+// was told of.
 fn tell_and_read<C: Channels, R: Wait + Abort>(rt: &R, alloc: Global, board: NewBoard)
     requires { board ≡ C.board }
 {
     let mut writer = open_board::<C, R, Global>(rt, alloc, board, 1, 0);
     let mut reader = writer.reader().expect(rt, "no reader");
-    wants_shot(rt, &mut reader, 0, ROW_LIMIT);
+    wants_shot(rt, &mut reader, 0, SERVICE_LIMIT);
     tell_of_four(rt, &mut writer, &mut reader);
     drop(writer);
     assert!(rt; reader.read().is_none());
@@ -148,7 +150,7 @@ fn tell_of_full<C: Channels, W: Wait + Drop, R: Abort>(
     at: u64,
 ) {
     let next = shot(at);
-    tell_of_one(rt, writer, reader, &next, ROW_LIMIT);
+    tell_of_one(rt, writer, reader, &next, SERVICE_LIMIT);
 }
 
 // A shot is published, of which the reader is told. It reads it as often as it reads.
@@ -220,7 +222,7 @@ fn wants_first<C: Channels, W: Wait + Drop, A: Allocator + Copy, R: Abort>(
     at: u64,
 ) {
     let mut reader = writer.reader().expect(rt, "no reader");
-    wants_shot(rt, &mut reader, at, ROW_LIMIT);
+    wants_shot(rt, &mut reader, at, SERVICE_LIMIT);
 }
 
 // Publishes while the heap has no room for one more shot, and again once it has.
@@ -240,7 +242,7 @@ fn publish_at_last<'h, C: Channels, W: Wait + Drop, R: Abort>(
     let mut reader = writer.reader().expect(rt, "no reader");
     refuse_to_publish(rt, heap, writer, &mut reader);
     wants_published(rt, writer, None);
-    tell_and_want(rt, writer, &mut reader, 1, ROW_LIMIT);
+    tell_and_want(rt, writer, &mut reader, 1, SERVICE_LIMIT);
 }
 
 // Publishes a full shot after one step, with this fault.
@@ -262,7 +264,7 @@ fn refuse_to_publish<'h, C: Channels, W: Wait + Drop, R: Abort>(
 ) {
     let _room = fill(rt, heap, 4096);
     wants_published(rt, writer, Some(NoMemory));
-    tell_and_want(rt, writer, reader, 0, ROW_LIMIT);
+    tell_and_want(rt, writer, reader, 0, SERVICE_LIMIT);
 }
 
 #[test]
@@ -270,7 +272,8 @@ fn readers_beside_a_writer_never_see_an_older_shot(rt: HostRuntime) {
     publish_and_read::<Brand, _>(&rt, rt.alloc(), NewBoard::new())
 }
 
-// Three readers read, each in a thread of its own, while 1,000 shots are published in a fourth. Then they are told of the last.
+// Three readers read, each in a thread of its own, while 1,000 shots are published in a fourth.
+// Then they are told of the last.
 fn publish_and_read<C: Channels + Send + Sync, R: Threads + Wait + Abort + Sync>(
     rt: &R,
     alloc: Global,
@@ -303,7 +306,7 @@ fn tell_each<C: Channels, W: Wait + Drop, R: Abort>(
     readers: &mut [BoardReader<C>],
 ) {
     for reader in readers.iter_mut() {
-        tell_and_want(rt, writer, reader, SHOTS, ROW_LIMIT);
+        tell_and_want(rt, writer, reader, SHOTS, SERVICE_LIMIT);
     }
 }
 
@@ -360,7 +363,8 @@ fn watch_all<C: Channels + Send + Sync, R: Threads + Wait + Sync>(
     faults.load(Ordering::SeqCst) == 0
 }
 
-// Reads until all is published. A fault is to see no shot, one not whole, or an older one than before.
+// Reads until all is published. A fault is to see no shot, one not whole, or an older one than
+// before.
 fn watch<C: Channels>(
     rt: &impl Wait,
     reader: &mut BoardReader<C>,

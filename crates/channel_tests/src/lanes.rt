@@ -1,4 +1,5 @@
-//! Tests of lanes, desks and the probe. All but the last run with ample memory, and fail where a growth is refused.
+//! Tests of lanes, desks and the probe. All but the last run with ample memory, and fail where a
+//! growth is refused.
 ghost use Rattle.std.specs.Prelude.{◌≡◌, [], IfSome};
 
 use order_lanes::probe::Probe;
@@ -14,7 +15,7 @@ use std::sync::{Arc, Mutex, Wait};
 use std::thread;
 use std::thread::Threads;
 
-type Log = Arc<Mutex<Vec<Order>>, Global>;
+type AskedLog = Arc<Mutex<Vec<Order>>, Global>;
 
 // The order to start the first `run` of the service of this serial.
 fn run(number: u64) -> Order {
@@ -29,29 +30,30 @@ fn kill(number: u64) -> Order {
 }
 
 // A log in which nothing is written; None where a growth was refused.
-fn try_log(alloc: Global) -> Option<Log> {
+fn try_log(alloc: Global) -> Option<AskedLog> {
     Arc::new(alloc, Mutex::new(Vec::new(alloc))).ok()
 }
 
-fn new_log<R: Abort>(rt: &R, alloc: Global) -> Log {
+fn new_log<R: Abort>(rt: &R, alloc: Global) -> AskedLog {
     try_log(alloc).expect(rt, "memory")
 }
 
 // What was written into the log.
-fn wants_log<R: Wait + Abort>(rt: &R, log: &Log, wanted: &[Order]) {
+fn wants_log<R: Wait + Abort>(rt: &R, log: &AskedLog, wanted: &[Order]) {
     let found = log.lock(rt);
     assert!(rt; found.as_slice() == wanted);
 }
 
-// A probe that has no reports, writes into this log, and is so often busy; None where a growth was refused.
-fn try_probe<R: Drop>(rt: R, alloc: Global, busy: u32, log: &Log) -> Option<Probe<R>>
+// A probe that has no reports, writes into this log, and is so often busy; None where a growth was
+// refused.
+fn try_probe<R: Drop>(rt: R, alloc: Global, busy: u32, log: &AskedLog) -> Option<Probe<R>>
     ensures { IfSome result (λ p. p.asked ≡ []) }
 {
     let log = Arc::try_clone(log).ok()?;
     Some(Probe::new(rt, alloc, Vec::new(alloc), busy, log))
 }
 
-fn new_probe<R: Abort + Copy + Drop>(rt: R, alloc: Global, busy: u32, log: &Log) -> Probe<R>
+fn new_probe<R: Abort + Copy + Drop>(rt: R, alloc: Global, busy: u32, log: &AskedLog) -> Probe<R>
     ensures { result.asked ≡ [] }
 {
     try_probe(rt, alloc, busy, log).expect(&rt, "memory")
@@ -289,7 +291,7 @@ fn refused_growth_loses_nothing(rt: HostRuntime) {
 }
 
 // Nothing is asked where a growth of the test itself was refused.
-fn ask_one<R: Wait + Abort + Copy + Drop>(rt: R, alloc: Global, log: &Log) {
+fn ask_one<R: Wait + Abort + Copy + Drop>(rt: R, alloc: Global, log: &AskedLog) {
     let Some(ring) = try_ring(alloc) else {
         return;
     };

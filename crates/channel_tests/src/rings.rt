@@ -172,7 +172,8 @@ fn two_seats_make_one_run(rt: HostRuntime) {
     hand_in_ticks::<Brand, _>(&rt, first, second);
 }
 
-// Two seats submit 32 ticks each, and then each one's are taken: all of them, in the order in which they were submitted.
+// Two seats submit 32 ticks each, and then each one's are taken: all of them, in the order in which
+// they were submitted.
 fn hand_in_ticks<C: Channels, R: Abort>(rt: &R, first: Ring, second: Ring)
     requires first { first.ring ≡ C.seat_ring first.actor }
     requires second { second.ring ≡ C.seat_ring second.actor }
@@ -220,7 +221,8 @@ fn acts_of_two_seats_come_once_and_in_order(rt: HostRuntime) {
     hand_in_and_take::<Brand, _>(&rt, first, second);
 }
 
-// Two seats hand in all of their acts, each in a thread of its own, while a third thread takes them.
+// Two seats hand in all of their acts, each in a thread of its own, while a third thread takes
+// them.
 fn hand_in_and_take<C: Channels + Send + Sync, R: Threads + Abort + Sync>(
     rt: &R,
     first: Ring,
@@ -265,7 +267,8 @@ fn hand_in_each<C: Channels>(seat: &mut Seat<C>) {
     }
 }
 
-// Takes 10,000 acts of each seat: whether each seat's came with their numbers in order, and nothing after them.
+// Takes 10,000 acts of each seat: whether each seat's came with their numbers in order, and nothing
+// after them.
 fn take_all<C: Channels>(first: Drain<C>, second: Drain<C>) -> bool {
     let mut first = first;
     let mut second = second;

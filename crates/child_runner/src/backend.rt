@@ -1,5 +1,6 @@
-//! The backend of real processes: it carries out orders, as to start a service's program or to signal it, and reports what becomes of the programs.
-//! The keeper is the thread that starts the threads of each child; `roster` is its list of children.
+//! The backend of real processes: it carries out orders, as to start a service's program or to
+//! signal it, and reports what becomes of the programs. The keeper is the thread that starts the
+//! threads of each child; `roster` is its list of children.
 ghost use Rattle.std.specs.Prelude.{◌≡◌, ◌++◌, ◌∷◌, [], OnOk, OnErr, IfOk};
 ghost use Rattle.child_runner.specs.Roll.{with_asked};
 
@@ -27,9 +28,10 @@ use std::rt::Files;
 use std::sync::{Arc, Wait};
 use std::time::Clock;
 
-/// A backend whose services are processes. The directory of a service is `root/NAME`, and its programs run there. `roster` lists the children
-/// of all backends of a keeper, `processes` those of this one whose end was not reported yet; `turn` is which of them is asked first for a
-/// report, and `roll` which starts may still be reported on. Page `s6-supervise`.
+/// A backend whose services are processes. The directory of a service is `root/NAME`, and its
+/// programs run there. `roster` lists the children of all backends of a keeper, `processes` those
+/// of this one whose end was not reported yet; `turn` is which of them is asked first for a report,
+/// and `roll` which starts may still be reported on. Page `s6-supervise`.
 #[derive(Drop)]
 pub struct ProcessBackend<R> {
     rt: R,
@@ -62,8 +64,9 @@ fn deaf_text(alloc: Global, root: &str, name: &Name) -> Result<String, AllocErro
 }
 
 impl<R: Drop> ProcessBackend<R> {
-    /// A backend of the services under `root`. `keeper` starts the threads of its children. A start that fails, and a signal that can't be
-    /// sent for want of a shell, is told on `notes`. `NoMemory` where memory is refused.
+    /// A backend of the services under `root`. `keeper` starts the threads of its children. A start
+    /// that fails, and a signal that can't be sent for want of a shell, is told on `notes`.
+    /// `NoMemory` where memory is refused.
     pub fn new(
         rt: R,
         alloc: Global,
@@ -84,20 +87,16 @@ impl<R: Drop> ProcessBackend<R> {
             roster,
             bell,
             notes: Arc::try_clone(notes)?,
-            // The children of this backend whose end was not reported yet.
             processes: Vec::new(alloc),
-            // Starts that are tried again.
             trials: VecDeque::new(alloc),
-            // The services for which a note said that no signal can be sent to them.
             deaf: Vec::new(alloc),
-            // Which child is asked first for a report.
             turn: 0,
-            // Which starts were ordered and may still be reported on.
             roll: Roll::new(alloc)?,
         })
     }
 
-    /// The bell that rings when there is something to report. Take it before the backend is boxed. `NoMemory` where memory is refused.
+    /// The bell that rings when there is something to report. Take it before the backend is boxed.
+    /// `NoMemory` where memory is refused.
     pub fn bell(&self) -> Result<Arc<Bell, Global>, NoMemory> {
         Ok(Arc::try_clone(&self.bell)?)
     }
@@ -106,7 +105,8 @@ impl<R: Drop> ProcessBackend<R> {
 impl<
     R: Processes<Started = SystemProcess> + Files<File = File> + Wait + Clock + Drop,
 > ProcessBackend<R> {
-    // Starts the program that this order starts, of the service `name`. One that can't be started is reported.
+    // Starts the program that this order starts, of the service `name`. One that can't be started
+    // is reported.
     fn start(&mut self, order: &Order, name: &Name, start: &Start) -> Result<(), AskFault>
         ensures added { OnOk result (self.new ≡ record self.old {
           asked = self.old.asked ++ order.now ∷ [];
@@ -120,8 +120,9 @@ impl<
         }
     }
 
-    // Enters the child in `roster`, the list of the keeper, which starts the threads of children, and in `roll`, the list of starts that may be
-    // reported on; and starts its program. It takes all memory before, so at `NoMemory` nothing was started. A program that can't be started is
+    // Enters the child in `roster`, the list of the keeper, which starts the threads of children,
+    // and in `roll`, the list of starts that may be reported on; and starts its program. It takes
+    // all memory before, so at `NoMemory` nothing was started. A program that can't be started is
     // reported.
     fn enter_and_run(&mut self, order: &Order, name: &Name, start: &Start) -> Result<(), NoMemory>
         ensures added { OnOk result (self.new ≡ record self.old {
@@ -140,7 +141,7 @@ impl<
         self.trials.reserve(1)?;
         self.roster.enter(&self.rt, &process)?;
         if let Err(refused) = self.roll.start(order) {
-            self.roster.leave(&self.rt, number);
+            self.roster.remove_child(&self.rt, number);
             return Err(refused);
         }
         self.processes.push_reserved(process);
@@ -166,7 +167,8 @@ impl<
         }
     }
 
-    // Puts a start at the end of those that are tried again. Where memory for it is refused, it is given up.
+    // Puts a start at the end of those that are tried again. Where memory for it is refused, it is
+    // given up.
     fn put_back(&mut self, trial: Trial)
         ensures { self.new ≡ self.old }
     {
@@ -180,7 +182,7 @@ impl<
     fn begin(&self, process: &ServiceProcess, child: Child<SystemProcess>, pipe: Option<Pipe>) {
         // The keeper starts the threads that watch the child.
         process.begin(&self.rt, child, pipe);
-        self.roster.begin(&self.rt, process.number);
+        self.roster.note_running(&self.rt, process.number);
     }
 
     // The child can't be started. That is noted too, since it has no program that could say so.
@@ -192,7 +194,7 @@ impl<
     // The child is not started: that is reported, and the keeper's list forgets it.
     fn give_up(&self, process: &ServiceProcess) {
         process.fail(&self.rt);
-        self.roster.leave(&self.rt, process.number);
+        self.roster.remove_child(&self.rt, process.number);
     }
 
     // Tries a start again, if its time has come. Returns it where it is to be tried once more.
@@ -215,8 +217,8 @@ impl<
         None
     }
 
-    // Goes over the first of the starts that are tried again: it is given up if `unwanted` holds of it, else tried if its time has come. It stands
-    // last then, if it is to be tried once more.
+    // Goes over the first of the starts that are tried again: it is given up if `unwanted` holds of
+    // it, else tried if its time has come. It stands last then, if it is to be tried once more.
     fn go_over_first(&mut self, unwanted: &Option<Unwanted>, now: u64)
         ensures { self.new ≡ self.old }
     {
@@ -294,15 +296,16 @@ impl<
         if let Some(place) = self.place_of(start) {
             self.send(place, signal)?;
         }
-        // The roll notes the order. It takes no memory for one that starts nothing, so this is not refused once the signal was sent.
+        // The roll notes the order. It takes no memory for one that starts nothing, so this is not
+        // refused once the signal was sent.
         match self.roll.note(order) {
             Ok(()) => Ok(()),
             Err(_) => Err(AskFault::NoMemory),
         }
     }
 
-    // Has a shell send a signal to the child at this index. `Busy` where the system has no room for the shell now, `NoMemory` where memory
-    // is refused.
+    // Has a shell send a signal to the child at this index. `Busy` where the system has no room for
+    // the shell now, `NoMemory` where memory is refused.
     fn send(&mut self, place: usize, signal: u8) -> Result<(), AskFault>
         ensures { self.new ≡ self.old }
     {
@@ -336,9 +339,10 @@ impl<
         let _ = self.deaf.push(sid);
     }
 
-    // Carries out an order: starts the `run` or the `finish` of a service, or sends a signal to one that still lives. `Busy` where no signal can
-    // be sent now, `NoMemory` where memory is refused: then the order is to be asked again. A `Start` names one start of a program: by the
-    // service's serial, the generation, and which of the two programs it is.
+    // Carries out an order: starts the `run` or the `finish` of a service, or sends a signal to one
+    // that still lives. `Busy` where no signal can be sent now, `NoMemory` where memory is refused:
+    // then the order is to be asked again. A `Start` names one start of a program: by the service's
+    // serial, the generation, and which of the two programs it is.
     fn carry_out(&mut self, order: &Order) -> Result<(), AskFault>
         ensures added { OnOk result (self.new ≡ with_asked order.now self.old) }
         ensures same { OnErr result (self.new ≡ self.old) }
@@ -361,8 +365,8 @@ impl<
         }
     }
 
-    // The next report of a child. The children take turns, so one that writes much holds up no other: `turn` is the index of the one that is asked
-    // first.
+    // The next report of a child. The children take turns, so one that writes much holds up no
+    // other: `turn` is the index of the one that is asked first.
     fn next_report(&mut self) -> Option<Report>
         ensures { self.new ≡ self.old }
     {
@@ -397,9 +401,10 @@ impl<R: Processes<Started = SystemProcess> + Files<File = File> + Wait + Clock +
 
     ghost given = { λ b. b.given };
 
-    /// Starts or signals a process. `Busy` once the keeper is ending, and where a signal can't be sent now because the system has no room
-    /// for one more process or descriptor. `NoMemory` where memory is refused. After either nothing was done, and the order is to be asked
-    /// again. A start that fails is accepted, and reported.
+    /// Starts or signals a process. `Busy` once the keeper is ending, and where a signal can't be
+    /// sent now because the system has no room for one more process or descriptor. `NoMemory` where
+    /// memory is refused. After either nothing was done, and the order is to be asked again. A
+    /// start that fails is accepted, and reported.
     fn ask(&mut self, order: Order) -> Result<(), (Order, AskFault)> {
         if self.roster.is_ending(&self.rt) {
             return Err((order, AskFault::Busy));
@@ -410,7 +415,8 @@ impl<R: Processes<Started = SystemProcess> + Files<File = File> + Wait + Clock +
         }
     }
 
-    /// The next report of a process that this backend was asked to start. Any other report is dropped: the roll doesn't let it through.
+    /// The next report of a process that this backend was asked to start. Any other report is
+    /// dropped: the roll doesn't let it through.
     fn report(&mut self) -> Option<Report> {
         let report = self.next_report()?;
         self.roll.pass(report)

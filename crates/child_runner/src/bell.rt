@@ -2,8 +2,9 @@
 use std::sync::{Condvar, Mutex, Wait};
 use std::time::{Clock, Duration};
 
-/// A bell is rung when there is something to do, and rings until somebody has waited for it, so no ring is missed. A backend rings its bell
-/// when it has something to report. Whoever sends orders to the backend's thread may ring it too.
+/// A bell is rung when there is something to do, and rings until somebody has waited for it, so no
+/// ring is missed. A backend rings its bell when it has something to report. Whoever sends orders
+/// to the backend's thread may ring it too.
 #[derive(Drop)]
 pub struct Bell {
     is_ringing: Mutex<bool>,

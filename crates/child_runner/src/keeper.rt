@@ -1,4 +1,5 @@
-//! The keeper: the thread that starts, and joins, the threads that wait for children and read their output. `roster` is its list of children.
+//! The keeper: the thread that starts, and joins, the threads that wait for children and read their
+//! output. `roster` is its list of children.
 ghost use Rattle.std.specs.Prelude.{◌≡◌};
 
 use crate::roster::ChildList;
@@ -70,8 +71,9 @@ impl<R: Threads + Wait + Clock + Copy + Send + Sync + Drop + 'static> Keeper<R> 
 }
 
 impl<R: Processes + Threads + Wait + Drop> Keeper<R> {
-    /// Ends the keeper: kills the children that still live, waits for them, and joins all threads. Call it once its backends are needed no
-    /// more: from then on they answer `Busy`. Where a child can't be sent the signal, it waits until that child ends by itself.
+    /// Ends the keeper: kills the children that still live, waits for them, and joins all threads.
+    /// Call it once its backends are needed no more: from then on they answer `Busy`. Where a child
+    /// can't be sent the signal, it waits until that child ends by itself.
     pub fn end(self) {
         let Keeper {
             rt,
@@ -93,13 +95,15 @@ impl<R: Processes + Threads + Wait + Drop> Keeper<R> {
     }
 }
 
-// Kills a child, and wakes the thread that reads its descriptor, which another program may keep open.
+// Kills a child, and wakes the thread that reads its descriptor, which another program may keep
+// open.
 fn stop<R: Processes + Wait>(rt: &R, alloc: Global, process: &ServiceProcess) {
     let _ = signal_child(rt, alloc, process, SIGKILL);
     process.write_end_mark(rt);
 }
 
-// The body of the keeper's thread: starts and joins the threads of the children on `roster`, until the keeper is ended and no child is left.
+// The body of the keeper's thread: starts and joins the threads of the children on `roster`, until
+// the keeper is ended and no child is left.
 fn run_keeper<R: Threads + Wait + Clock + Copy + Send + Sync + Drop + 'static>(
     rt: R,
     roster: Arc<ChildList, Global>,
@@ -107,7 +111,8 @@ fn run_keeper<R: Threads + Wait + Clock + Copy + Send + Sync + Drop + 'static>(
     watch_all(&rt, &roster);
 }
 
-// Starts the thread of each child that comes. The end of the scope waits for the threads that still run.
+// Starts the thread of each child that comes. The end of the scope waits for the threads that still
+// run.
 fn watch_all<R: Threads + Wait + Clock + Copy + Send + Sync + Drop + 'static>(
     rt: &R,
     roster: &ChildList,
@@ -119,8 +124,8 @@ fn watch_all<R: Threads + Wait + Clock + Copy + Send + Sync + Drop + 'static>(
     );
 }
 
-// Starts the thread of each child that comes to `roster`, within this scope, until no more will come. A child without a thread is killed, and
-// leaves the roster.
+// Starts the thread of each child that comes to `roster`, within this scope, until no more will
+// come. A child without a thread is killed, and leaves the roster.
 fn start_watches<'s, E, R: Threads + Wait + Clock + Copy + Send + Sync + Drop + 'static>(
     scope: &Scope<'s, E>,
     rt: &'s R,
@@ -133,7 +138,7 @@ fn start_watches<'s, E, R: Threads + Wait + Clock + Copy + Send + Sync + Drop + 
         // A child for which no thread can be started is killed.
         if !spawn_watch(scope, rt, roster, &process) {
             give_back(rt, &process);
-            roster.leave(rt, process.number);
+            roster.remove_child(rt, process.number);
         }
     }
 }

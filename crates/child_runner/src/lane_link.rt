@@ -1,4 +1,5 @@
-//! The link between the backend of a run and the thread of its lane: a queue of orders to the thread, and one of reports back.
+//! The link between the backend of a run and the thread of its lane: a queue of orders to the
+//! thread, and one of reports back.
 ghost use Rattle.std.specs.Prelude.{◌≡◌, ◌++◌, ◌∷◌, [], OnOk, OnErr};
 ghost use Rattle.child_runner.specs.Roll.{with_asked};
 
@@ -13,16 +14,17 @@ use std::sync::{Arc, Mutex, Wait};
 use std::time::{Clock, Duration};
 
 /// The most orders that may be on their way to a lane's thread.
-pub const ORDER_LIMIT: usize = 1_024;
+pub const LINK_ORDER_LIMIT: usize = 1_024;
 
 /// The most reports that may be on their way back.
-pub const REPORT_LIMIT: usize = 64;
+pub const LINK_REPORT_LIMIT: usize = 64;
 
 /// How many words that starts are wanted no more may be on their way.
 const UNWANTED_LIMIT: usize = 64;
 
-/// The orders on their way to the thread of a lane, and the reports on their way back, each in order. `bell` wakes that thread, and `is_over`
-/// says that it is to end. The thread outlives the runs of a tree, and so does the link. Memory is taken as orders and reports come.
+/// The orders on their way to the thread of a lane, and the reports on their way back, each in
+/// order. `bell` wakes that thread, and `is_over` says that it is to end. The thread outlives the
+/// runs of a tree, and so does the link. Memory is taken as orders and reports come.
 #[derive(Drop)]
 pub struct LaneLink {
     orders: Mutex<LinkQueue<Order>>,
@@ -34,8 +36,8 @@ pub struct LaneLink {
     bell: Arc<Bell, Global>,
 }
 
-// Adds an order for the lane's thread. From then on the order counts as asked: the roll, a list of the starts that were ordered, lets the reports
-// of its start through.
+// Adds an order for the lane's thread. From then on the order counts as asked: the roll, a list of
+// the starts that were ordered, lets the reports of its start through.
 fn add_order(orders: &mut LinkQueue<Order>, roll: &mut Roll, order: &Order) -> Result<(), AskFault>
     ensures queued { OnOk result (orders.new.items.items
         ≡ orders.old.items.items ++ order.now ∷ []) }
@@ -53,17 +55,14 @@ fn add_order(orders: &mut LinkQueue<Order>, roll: &mut Roll, order: &Order) -> R
 }
 
 impl LaneLink {
-    /// A link with nothing on its way. `bell` is that of the lane's own backend: it rings for the lane's thread when there is something to
-    /// do.
+    /// A link with nothing on its way. `bell` is that of the lane's `ProcessBackend`: it rings
+    /// for the lane's thread when there is something to do.
     pub fn new(alloc: Global, bell: Arc<Bell, Global>) -> LaneLink {
         LaneLink {
-            orders: Mutex::new(LinkQueue::new(alloc, ORDER_LIMIT)),
-            reports: Mutex::new(LinkQueue::new(alloc, REPORT_LIMIT)),
-            // Whether the lane's thread tries starts again.
+            orders: Mutex::new(LinkQueue::new(alloc, LINK_ORDER_LIMIT)),
+            reports: Mutex::new(LinkQueue::new(alloc, LINK_REPORT_LIMIT)),
             is_trying: Mutex::new(false),
-            // Whose starts are wanted no more.
             unwanted: Mutex::new(LinkQueue::new(alloc, UNWANTED_LIMIT)),
-            // Whether the lane's thread is to end.
             is_over: Mutex::new(false),
             bell,
         }
@@ -75,8 +74,9 @@ impl LaneLink {
         self.bell.ring(rt);
     }
 
-    /// Says that starts are wanted no more: those that the lane's thread tries again end, and are reported as failed. Where 64 such words are on
-    /// their way, or memory is refused, they go on until they are given up.
+    /// Says that starts are wanted no more: those that the lane's thread tries again end, and are
+    /// reported as failed. Where 64 such words are on their way, or memory is refused, they go on
+    /// until they are given up.
     pub fn end_starts<R: Wait>(&self, rt: &R, unwanted: Unwanted) {
         if !*self.is_trying.lock(rt) {
             return;
@@ -96,7 +96,7 @@ impl LaneLink {
 
     /// Takes the next word that starts are wanted no more; None where there is none.
     pub(crate) fn take_unwanted<R: Wait>(&self, rt: &R) -> Option<Unwanted> {
-        self.unwanted.lock(rt).take()
+        self.unwanted.lock(rt).pop()
     }
 
     /// Whether the lane's thread is to end.
@@ -104,8 +104,8 @@ impl LaneLink {
         *self.is_over.lock(rt)
     }
 
-    /// Sends an order to the lane's thread, and rings for it. `Busy` where 1,024 are on their way, `NoMemory` where memory is refused; then
-    /// it wasn't sent.
+    /// Sends an order to the lane's thread, and rings for it. `Busy` where 1,024 are on their way,
+    /// `NoMemory` where memory is refused; then it wasn't sent.
     pub(crate) fn send<R: Wait>(
         &self,
         rt: &R,
@@ -128,11 +128,12 @@ impl LaneLink {
         let mut orders = self.orders.lock(rt);
         // If it was, the driver may wait for a place.
         let was_full = orders.is_full();
-        let order = orders.take()?;
+        let order = orders.pop()?;
         Some((order, was_full))
     }
 
-    /// Sends a report back. The error is the report, where 64 are on their way or memory is refused.
+    /// Sends a report back. The error is the report, where 64 are on their way or memory is
+    /// refused.
     pub(crate) fn give<R: Wait>(&self, rt: &R, report: Report) -> Result<(), Report> {
         let mut reports = self.reports.lock(rt);
         // There is no place, or no memory for it.
@@ -143,12 +144,12 @@ impl LaneLink {
         Ok(())
     }
 
-    /// Takes the next report that came back; None where there is none. Where the queue was full, it rings for the lane's thread, since
-    /// there is a place now.
+    /// Takes the next report that came back; None where there is none. Where the queue was full, it
+    /// rings for the lane's thread, since there is a place now.
     pub(crate) fn take_report<R: Wait>(&self, rt: &R) -> Option<Report> {
         let mut reports = self.reports.lock(rt);
         let was_full = reports.is_full();
-        let report = reports.take()?;
+        let report = reports.pop()?;
         drop(reports);
         if was_full {
             self.bell.ring(rt);

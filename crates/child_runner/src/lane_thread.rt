@@ -1,4 +1,5 @@
-//! The thread of a lane: it asks its backend, which starts and signals processes, what a run orders by the link, and sends reports back by it.
+//! The thread of a lane: it asks its backend, which starts and signals processes, what a run orders
+//! by the link, and sends reports back by it.
 ghost use Rattle.std.specs.Prelude.{◌≡◌, ◌++◌, ◌∷◌, [], IfSome, IfNone};
 
 use crate::bell::Bell;
@@ -9,10 +10,12 @@ use s6_events::Order;
 use std::sync::Wait;
 use std::time::{Clock, Duration};
 
-/// What carries out the orders of a lane in the lane's thread. It tries a start again that fails for a fault of the moment, as where the file is
-/// being written, and takes further orders meanwhile.
+/// What carries out the orders of a lane in the lane's thread. It tries a start again that fails
+/// for a fault of the moment, as where the file is being written, and takes further orders
+/// meanwhile.
 pub trait LaneWorker: Backend {
-    /// Tries again each start whose time has come. Returns after how many milliseconds the next one comes; None where none is left to be tried.
+    /// Tries again each start whose time has come. Returns after how many milliseconds the next one
+    /// comes; None where none is left to be tried.
     fn try_again(&mut self) -> Option<u64>
         ensures asked { Self.asked self.new ≡ Self.asked self.old }
         ensures given { Self.given self.new ≡ Self.given self.old };
@@ -24,12 +27,13 @@ pub trait LaneWorker: Backend {
 }
 
 /// The most orders that are asked before reports are looked for.
-const ORDERS: usize = 16;
+const ORDERS_AT_ONCE: usize = 16;
 
 /// How long it waits at most after an order or a report was refused, in milliseconds.
 const RETRY: u64 = 20;
 
-/// What the thread of a lane holds back: an order that the backend refused, and a report for which there was no place.
+/// What the thread of a lane holds back: an order that the backend refused, and a report for which
+/// there was no place.
 #[derive(Drop)]
 struct Held {
     order: Option<Order>,
@@ -38,7 +42,7 @@ struct Held {
 
 /// How the asking of some orders went.
 #[derive(Clone, Copy, PartialEq, Eq, Debug)]
-enum Carrying {
+enum Asking {
     /// There may be more.
     More,
     /// None is left.
@@ -47,11 +51,12 @@ enum Carrying {
     Refused,
 }
 
-/// Serves a lane until the link is ended: asks `backend` the orders that a `LinkedBackend` sends, in order, and sends its reports back. An
-/// order that is refused is held, and asked again after at most 20 ms, or when the bell rings; reports go on meanwhile. Starts that failed for a fault
-/// of the moment are tried again when their time has come. It rings `driver`,
-/// the bell of the driver, which is the thread that drives the tree's runs, when it has sent a report back, and when there is a place for
-/// orders where there was none. It waits on the link's bell alone.
+/// Serves a lane until the link is ended: asks `backend` the orders that a `LinkedBackend` sends,
+/// in order, and sends its reports back. An order that is refused is held, and asked again after at
+/// most 20 ms, or when the bell rings; reports go on meanwhile. Starts that failed for a fault of
+/// the moment are tried again when their time has come. It rings `driver`, the bell of the driver,
+/// which is the thread that drives the tree's runs, when it has sent a report back, and when there
+/// is a place for orders where there was none. It waits on the link's bell alone.
 pub fn serve_lane<B: LaneWorker, R: Wait + Clock>(
     rt: &R,
     link: &LaneLink,
@@ -72,8 +77,8 @@ pub fn serve_lane<B: LaneWorker, R: Wait + Clock>(
         // Whether a report is kept, since there was no place for it.
         let are_kept = give_reports(rt, link, driver, backend, &mut held.report);
         match carrying {
-            Carrying::More => {}
-            Carrying::Idle if !are_kept => {
+            Asking::More => {}
+            Asking::Idle if !are_kept => {
                 link.wait_for_work(rt, next_try.map(Duration::from_millis));
             }
             // An order was refused or a report is kept: it is tried again after a while.
@@ -84,10 +89,10 @@ pub fn serve_lane<B: LaneWorker, R: Wait + Clock>(
     backend.end_starts(Unwanted::All);
 }
 
-// Gives up the starts that are wanted no more, and tries those again whose time has come. Returns after how many milliseconds the next one comes;
-// None where none is left.
+// Gives up the starts that are wanted no more, and tries those again whose time has come. Returns
+// after how many milliseconds the next one comes; None where none is left.
 fn try_starts<B: LaneWorker, R: Wait>(rt: &R, link: &LaneLink, backend: &mut B) -> Option<u64> {
-    for _ in 0..ORDERS {
+    for _ in 0..ORDERS_AT_ONCE {
         let Some(unwanted) = link.take_unwanted(rt) else {
             break;
         };
@@ -105,21 +110,21 @@ fn carry_some<B: Backend, R: Wait>(
     driver: &Bell,
     backend: &mut B,
     held: &mut Option<Order>,
-) -> Carrying {
-    for _ in 0..ORDERS {
+) -> Asking {
+    for _ in 0..ORDERS_AT_ONCE {
         let Some(order) = next_order(rt, link, driver, held) else {
-            return Carrying::Idle;
+            return Asking::Idle;
         };
         *held = ask_one(backend, order);
         if held.is_some() {
-            return Carrying::Refused;
+            return Asking::Refused;
         }
     }
-    Carrying::More
+    Asking::More
 }
 
-// The order that is held, or else the next one of the link; None where there is neither. Rings `driver`, the driver's bell, where the link was
-// full.
+// The order that is held, or else the next one of the link; None where there is neither. Rings
+// `driver`, the driver's bell, where the link was full.
 fn next_order<R: Wait>(
     rt: &R,
     link: &LaneLink,
@@ -149,7 +154,8 @@ fn ask_one<B: Backend>(backend: &mut B, order: Order) -> Option<Order>
     }
 }
 
-// Sends the backend's reports back while there is a place for them. Returns whether one is kept because there was none.
+// Sends the backend's reports back while there is a place for them. Returns whether one is kept
+// because there was none.
 fn give_reports<B: Backend, R: Wait>(
     rt: &R,
     link: &LaneLink,

@@ -13,8 +13,8 @@ use std::io;
 use std::process::{Child, Command, Processes, Stdio, SystemProcess};
 use std::rt::Files;
 
-/// What is needed to start a program of a service: the command, the path of the program that has to be there, and whether the child's
-/// output is read.
+/// What is needed to start a program of a service: the command, the path of the program that has to
+/// be there, and whether the child's output is read.
 #[derive(Drop)]
 pub(crate) struct Launch {
     command: Command,
@@ -26,7 +26,8 @@ pub(crate) struct Launch {
 }
 
 impl Launch {
-    // How `run` is started. `root` is the folder of all services, `fd` the descriptor by which the service tells that it is ready.
+    // How `run` is started. `root` is the folder of all services, `fd` the descriptor by which the
+    // service tells that it is ready.
     pub fn of_run(
         alloc: Global,
         root: &str,
@@ -61,8 +62,9 @@ impl Launch {
         })
     }
 
-    /// Starts the child. Returns it, and the pipe by which its output is read, if it is to be (`is_read`), as where the service tells by it that it
-    /// is ready. The fault says whether it is worth to try again.
+    /// Starts the child. Returns it, and the pipe by which its output is read, if it is to be
+    /// (`is_read`), as where the service tells by it that it is ready. The fault says whether it is
+    /// worth to try again.
     pub fn spawn<R: Processes<Started = SystemProcess> + Files<File = File>>(
         &mut self,
         rt: &R,
@@ -85,7 +87,8 @@ impl Launch {
     ) -> io::Result<(Child<SystemProcess>, Option<Pipe>)> {
         let mut pipe = None;
         if self.is_read {
-            // `theirs` is the child's standard output. By `writer`, a second writing end, a mark is written behind the last byte of the child.
+            // `theirs` is the child's standard output. By `writer`, a second writing end, a mark is
+            // written behind the last byte of the child.
             let (reader, theirs) = io::pipe(rt)?;
             let writer = theirs.try_clone()?;
             self.command.stdout(Stdio::from(theirs));
@@ -96,7 +99,8 @@ impl Launch {
     }
 }
 
-/// What is needed for an order that starts a program of a service under `root`; None for any other order. `NoMemory` where memory is refused.
+/// What is needed for an order that starts a program of a service under `root`; None for any other
+/// order. `NoMemory` where memory is refused.
 pub(crate) fn launch_of(
     alloc: Global,
     root: &str,
@@ -112,7 +116,8 @@ pub(crate) fn launch_of(
     Ok(Some(launch))
 }
 
-/// The note that what this order starts can't be started, and what starts it then. An error where memory is refused.
+/// The note that what this order starts can't be started, and what starts it then. An error where
+/// memory is refused.
 pub(crate) fn failure_note(alloc: Global, root: &str, order: &Order) -> Result<String, AllocError> {
     match order {
         Order::Run(_, _, name, _) => {

@@ -26,7 +26,7 @@ mod watching;
 pub use backend::ProcessBackend;
 pub use bell::Bell;
 pub use keeper::{Keeper, KeeperFault};
-pub use lane_link::{LaneLink, ORDER_LIMIT, REPORT_LIMIT};
+pub use lane_link::{LINK_ORDER_LIMIT, LINK_REPORT_LIMIT, LaneLink};
 pub use lane_thread::{LaneWorker, serve_lane};
 pub use linked_backend::LinkedBackend;
 pub use shell::ShellProbe;

@@ -33,7 +33,8 @@ impl<T: Drop> LinkQueue<T> {
         self.items.len() >= self.limit
     }
 
-    /// Makes room for one more item. `Busy` where the queue is full, `NoMemory` where memory is refused; the items stay as they were.
+    /// Makes room for one more item. `Busy` where the queue is full, `NoMemory` where memory is
+    /// refused; the items stay as they were.
     pub fn make_room(&mut self) -> Result<(), AskFault>
         ensures items { self.new.items.items ≡ self.old.items.items }
         ensures limit { self.new.limit ≡ self.old.limit }
@@ -60,7 +61,7 @@ impl<T: Drop> LinkQueue<T> {
     }
 
     /// Takes the oldest item; None where the queue is empty.
-    pub fn take(&mut self) -> Option<T>
+    pub fn pop(&mut self) -> Option<T>
         ensures first { IfSome result (λ x. self.old.items.items ≡ x ∷ self.new.items.items) }
         ensures none { IfNone result (self.old.items.items ≡ []) }
         ensures limit { self.new.limit ≡ self.old.limit }

@@ -1,4 +1,5 @@
-//! The commands by which orders are carried out. `run` and `finish` are started by their paths, so their texts are read at each start.
+//! The commands by which orders are carried out. `run` and `finish` are started by their paths, so
+//! their texts are read at each start.
 ghost use Rattle.std.specs.Prelude.{◌≡◌, ◌++◌, IfOk, codes, string_bytes};
 ghost use Rattle.child_runner.specs.CommandLine.{line_of, run_line, plain_line, shell_line, finish_line, kill_line, kill_script, start_script, program_path};
 
@@ -17,16 +18,18 @@ use std::str;
 /// What a shell tells where it can't become `run`: the path, `$2`.
 const START_TRAP: &str = "trap 'printf \"svscan: %s can\\047t be started\\n\" \"$2\" >&2' EXIT; ";
 
-// The script of a shell that sends a signal, in three parts. Where `/proc` is that of this shell's own numbers, it reads the state of the process
-// there.
+// The script of a shell that sends a signal, in three parts. Where `/proc` is that of this shell's
+// own numbers, it reads the state of the process there.
 const READ_STATE: &str =
     "exec 2>/dev/null; p=; read -r p s </proc/self/stat; [ \"$p\" != $$ ] || { s=; ";
 
-// The second field behind the name, which may hold anything, is the parent: it goes on only if that is its own.
+// The second field behind the name, which may hold anything, is the parent: it goes on only if that
+// is its own.
 const COMPARE_PARENT: &str = "while read -r l; do s=$s$l; done </proc/$1/stat; \
     set -- \"$1\" ${s##*) }; [ \"$3\" = $PPID ] || ";
 
-// Where `/proc` hides processes, as that of number 1, it goes on also where it can't read the state.
+// Where `/proc` hides processes, as that of number 1, it goes on also where it can't read the
+// state.
 const SEND_SIGNAL: &str = "{ [ -z \"$3\" ] && [ ! -r /proc/1/stat ]; }; } && kill -$0 $1";
 
 // The text of a service's name. A name is ASCII, so the dash is never returned.
@@ -39,8 +42,8 @@ pub(crate) fn text_of(name: &Name) -> &str
     }
 }
 
-/// Whether the child's output is read: it is for a notification descriptor of 1 or 3 to 9, by which a service tells that it is ready. Page
-/// `notifywhenup`.
+/// Whether the child's output is read: it is for a notification descriptor of 1 or 3 to 9, by which
+/// a service tells that it is ready. Page `notifywhenup`.
 pub(crate) fn is_read(fd: Option<u8>) -> bool {
     matches!(fd, Some(1 | 3..=9))
 }
@@ -58,15 +61,16 @@ pub(crate) fn directory_of(alloc: Global, root: &str, name: &Name) -> Result<Str
     Ok(format!(in alloc; "{root}/{name}")?)
 }
 
-// The script of a shell that starts `run` so that what it writes to descriptor `fd` goes where the child's output is read, and its own
-// standard output to standard error.
+// The script of a shell that starts `run` so that what it writes to descriptor `fd` goes where the
+// child's output is read, and its own standard output to standard error.
 fn start_script(alloc: Global, fd: u8) -> Result<String, NoMemory>
     ensures { IfOk result (λ text. string_bytes text ≡ start_script fd) }
 {
     Ok(format!(in alloc; "{START_TRAP}exec \"$0\" \"$1\" {fd}>&1 1>&2")?)
 }
 
-// The command that starts `run` in `directory` without a shell; `name`, the service's name, is its only argument.
+// The command that starts `run` in `directory` without a shell; `name`, the service's name, is its
+// only argument.
 fn plain_command(alloc: Global, directory: &str, name: &Name) -> Result<Command, NoMemory>
     ensures { IfOk result (λ c. line_of c ≡ plain_line directory.now name.now) }
 {
@@ -78,9 +82,10 @@ fn plain_command(alloc: Global, directory: &str, name: &Name) -> Result<Command,
     Ok(command)
 }
 
-// The command of a shell in `directory` that becomes `run`, after it redirected what is written to descriptor `fd` to where the child's output is
-// read. In its script `$0` is `./run`, `$1` is `name`, the service's name, which is the only argument of `run`, and `$2` the path that is told where
-// `run` can't be started.
+// The command of a shell in `directory` that becomes `run`, after it redirected what is written to
+// descriptor `fd` to where the child's output is read. In its script `$0` is `./run`, `$1` is
+// `name`, the service's name, which is the only argument of `run`, and `$2` the path that is told
+// where `run` can't be started.
 fn shell_command(alloc: Global, directory: &str, name: &Name, fd: u8) -> Result<Command, NoMemory>
     ensures { IfOk result (λ c. line_of c ≡ shell_line directory.now name.now fd) }
 {
@@ -97,9 +102,9 @@ fn shell_command(alloc: Global, directory: &str, name: &Name, fd: u8) -> Result<
     Ok(command)
 }
 
-/// Starts `run` in the service's directory, with the service's name as the only argument. What it writes to the notification descriptor is
-/// read at its standard output. For a descriptor of 3 to 9 a shell redirects it there; the shell then becomes `run`, and so keeps the
-/// process number.
+/// Starts `run` in the service's directory, with the service's name as the only argument. What it
+/// writes to the notification descriptor is read at its standard output. For a descriptor of 3 to 9
+/// a shell redirects it there; the shell then becomes `run`, and so keeps the process number.
 pub(crate) fn run_command(
     alloc: Global,
     directory: &str,
@@ -114,7 +119,8 @@ pub(crate) fn run_command(
     }
 }
 
-/// Starts `finish` in the service's directory, with three arguments: the exit code, the signal and the service's name. Page `servicedir`.
+/// Starts `finish` in the service's directory, with three arguments: the exit code, the signal and
+/// the service's name. Page `servicedir`.
 pub(crate) fn finish_command(
     alloc: Global,
     directory: &str,
@@ -135,15 +141,16 @@ pub(crate) fn finish_command(
     Ok(command)
 }
 
-// The script of a shell that sends a signal. It starts no process to look at the parent, and svscan needs no descriptor for it.
+// The script of a shell that sends a signal. It starts no process to look at the parent, and svscan
+// needs no descriptor for it.
 fn kill_script(alloc: Global) -> Result<String, NoMemory>
     ensures { IfOk result (λ text. string_bytes text ≡ kill_script) }
 {
     Ok(format!(in alloc; "{READ_STATE}{COMPARE_PARENT}{SEND_SIGNAL}")?)
 }
 
-/// A shell that sends a process this signal, if the process is a child of this one. In its script `$0` is the signal, and `$1` the number of the
-/// process.
+/// A shell that sends a process this signal, if the process is a child of this one. In its script
+/// `$0` is the signal, and `$1` the number of the process.
 pub(crate) fn kill_command(alloc: Global, pid: u32, signal: u8) -> Result<Command, NoMemory>
     ensures { IfOk result (λ c. line_of c ≡ kill_line pid signal) }
 {
@@ -159,7 +166,8 @@ pub(crate) fn kill_command(alloc: Global, pid: u32, signal: u8) -> Result<Comman
     Ok(command)
 }
 
-/// A shell that tries whether it may send itself signals: signal 0 does nothing but that. `$$` is the shell's own process number.
+/// A shell that tries whether it may send itself signals: signal 0 does nothing but that. `$$` is
+/// the shell's own process number.
 pub(crate) fn probe_command(alloc: Global) -> Result<Command, NoMemory> {
     let mut command = Command::new(alloc, "/bin/sh")?;
     command
@@ -185,7 +193,8 @@ pub(crate) fn path_of(alloc: Global, directory: &str, program: &Program) -> Resu
 /// The most bytes that are read of a program: Linux reads no more of its first line.
 const FIRST_BYTES: u64 = 256;
 
-/// Looks whether the interpreter is there that the program at this path names, where it names one. `directory` is that of the service.
+/// Looks whether the interpreter is there that the program at this path names, where it names one.
+/// `directory` is that of the service.
 pub(crate) fn look_at_interpreter<R: Files<File = File>>(
     rt: &R,
     alloc: Global,
@@ -216,7 +225,8 @@ fn read_first<R: Files<File = File>>(rt: &R, path: &str, text: &mut Vec<u8>) -> 
     }
 }
 
-/// Looks whether there is an executable file at this path. Where a shell starts the program, only its exit code would say that there is none.
+/// Looks whether there is an executable file at this path. Where a shell starts the program, only
+/// its exit code would say that there is none.
 pub(crate) fn look_at<R: Files>(rt: &R, path: &str) -> Result<(), StartFault> {
     match fs::metadata(rt, path) {
         Ok(found) if found.is_file() && found.permissions().mode() & 0o111 != 0 => Ok(()),

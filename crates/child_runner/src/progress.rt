@@ -1,4 +1,5 @@
-//! What is known of a child, the process of a service's program, and what of it is still to be reported to the tree.
+//! What is known of a child, the process of a service's program, and what of it is still to be
+//! reported to the tree.
 ghost use Rattle.std.specs.Prelude.{◌≡◌, IsTrue, IfSome, false};
 ghost use Rattle.child_runner.specs.Ending.{is_end};
 
@@ -21,8 +22,8 @@ enum Stage {
     Living,
 }
 
-/// What is known of a child: how far its start was told, what it wrote, and how it ended. Once it is given up nobody listens to it any more,
-/// since its keeper ends.
+/// What is known of a child: how far its start was told, what it wrote, and how it ended. Once it
+/// is given up nobody listens to it any more, since its keeper ends.
 #[derive(Drop)]
 pub(crate) struct Progress {
     stage: Stage,
@@ -46,17 +47,11 @@ impl Progress {
         Progress {
             // How far its start has come.
             stage: Stage::Starting,
-            // Whether it may be sent signals.
             signals: Signals::new(),
-            // What it wrote and nobody was told yet.
             written: ArrayVec::new(),
-            // Whether what it writes is still read.
             is_output_read: false,
-            // Whether it wrote its first newline: what comes after that is told to nobody.
             is_heard: false,
-            // How it ended.
             exit: None,
-            // Whether nobody listens to it any more.
             is_given_up: false,
         }
     }
@@ -77,7 +72,8 @@ impl Progress {
         self.signals.begin(pid);
     }
 
-    /// Its process number, if it may be sent a signal now. From then on a shell counts as under way, until `end_signal`.
+    /// Its process number, if it may be sent a signal now. From then on a shell counts as under
+    /// way, until `end_signal`.
     pub fn begin_signal(&mut self) -> Option<u32> {
         self.signals.begin_signal()
     }
@@ -97,7 +93,8 @@ impl Progress {
         self.signals.reap();
     }
 
-    /// Whether the end mark, which is written behind the last byte of the child, counts: the child was waited for, or nobody listens.
+    /// Whether the end mark, which is written behind the last byte of the child, counts: the child
+    /// was waited for, or nobody listens.
     pub fn is_mark_due(&self) -> bool {
         self.signals.is_reaped || self.is_given_up
     }
@@ -117,12 +114,14 @@ impl Progress {
         self.is_heard = true;
     }
 
-    /// Whether its end can be told: its output is read no more, or its first newline was, or nobody listens.
+    /// Whether its end can be told: its output is read no more, or its first newline was, or nobody
+    /// listens.
     pub fn may_end(&self) -> bool {
         !self.is_output_read || self.is_heard || self.is_given_up
     }
 
-    /// Notes that it ended in this way: from now on `next_report` may tell its end, and what it writes is wanted no more.
+    /// Notes that it ended in this way: from now on `next_report` may tell its end, and what it
+    /// writes is wanted no more.
     pub fn end(&mut self, exit: Exit) {
         self.exit = Some(exit);
     }
@@ -151,7 +150,8 @@ impl Progress {
         }
     }
 
-    /// The next report, in order: its start, what it wrote, and its end once no shell is under way; None where there is nothing to report.
+    /// The next report, in order: its start, what it wrote, and its end once no shell is under way;
+    /// None where there is nothing to report.
     pub fn next_report(&mut self, start: &Start) -> Option<Report>
         ensures { IfSome result (λ r. IsTrue (is_end r) → self.old.signals.is_shell_out ≡ false) }
     {
@@ -169,8 +169,8 @@ impl Progress {
         }
     }
 
-    // The next report of a child whose start was told: what it wrote and nobody was told yet, else its end; None where neither can be told now.
-    // `start` is the start that the report names.
+    // The next report of a child whose start was told: what it wrote and nobody was told yet, else
+    // its end; None where neither can be told now. `start` is the start that the report names.
     fn later_report(&mut self, start: &Start) -> Option<Report>
         ensures { IfSome result (λ r. IsTrue (is_end r) → self.old.signals.is_shell_out ≡ false) }
     {
@@ -185,7 +185,8 @@ impl Progress {
         Some(Report::Notify(start.sid, start.generation, bytes))
     }
 
-    // The report of its end; None while a shell is under way, since that may still send a signal to a number that the tree takes for free.
+    // The report of its end; None while a shell is under way, since that may still send a signal to
+    // a number that the tree takes for free.
     fn end_report(&self, start: &Start) -> Option<Report>
         ensures { IfSome result (λ _. self.now.signals.is_shell_out ≡ false) }
     {

@@ -1,4 +1,5 @@
-//! A backend's roll: which of the starts that it was asked have not ended; and, for contracts alone, all that it was asked and gave.
+//! A backend's roll: which of the starts that it was asked have not ended; and, for contracts
+//! alone, all that it was asked and gave.
 ghost use Rattle.std.specs.Prelude.{◌≡◌, ◌<◌, ◌++◌, ◌∷◌, [], List, length, IsTrue, Some, slice_get};
 ghost use Rattle.std.specs.Prelude.{OnOk, OnErr, IfOk, IfSome, IfNone, remove, if◌then◌else◌};
 ghost use Rattle.std.specs.List.{All};
@@ -13,11 +14,13 @@ use std::alloc::Global;
 use std::marker::Model;
 use std::snapshot::Snapshot;
 
-/// For how many orders, and for how many reports, a roll has room from the start: more than ever come. They have no bytes.
-const ROOM: usize = 0x4000_0000_0000_0000;
+/// For how many orders, and for how many reports, a roll has room from the start: more than ever
+/// come. They have no bytes.
+const ROLL_ROOM: usize = 0x4000_0000_0000_0000;
 
-/// What was asked and what was given, for contracts alone: these two lists take no memory once they are made. `living` are the starts that were
-/// asked and haven't ended; only a report of one of them is let through.
+/// What was asked and what was given, for contracts alone: these two lists take no memory once they
+/// are made. `living` are the starts that were asked and haven't ended; only a report of one of
+/// them is let through.
 #[derive(Drop)]
 pub(crate) struct Roll {
     living: Vec<Order>,
@@ -50,7 +53,8 @@ fn place_of(orders: &[Order], report: &Report) -> Option<usize>
     None
 }
 
-// The index of the first of the starts that haven't ended that the report is of; None where it is of none.
+// The index of the first of the starts that haven't ended that the report is of; None where it is
+// of none.
 #[tactic(auto, using(crate::proofs::Kept::answered))]
 fn place_of_start(living: &[Order], report: &Report) -> Option<usize>
     ensures place { IfSome result (λ k. k < length living.now) }
@@ -103,9 +107,10 @@ impl Roll {
         Ok(Roll {
             // The starts that were asked and haven't ended.
             living: Vec::new(alloc),
-            // For contracts alone. A list that grows takes a block also for what has no bytes, so these have all their room from the start.
-            asked: Vec::with_capacity(alloc, ROOM)?,
-            given: Vec::with_capacity(alloc, ROOM)?,
+            // For contracts alone. A list that grows takes a block also for what has no bytes, so
+            // these have all their room from the start.
+            asked: Vec::with_capacity(alloc, ROLL_ROOM)?,
+            given: Vec::with_capacity(alloc, ROLL_ROOM)?,
         })
     }
 
@@ -136,7 +141,8 @@ impl Roll {
         Ok(())
     }
 
-    /// Notes that an order was asked. If it starts a program, the reports of that start are let through from now on.
+    /// Notes that an order was asked. If it starts a program, the reports of that start are let
+    /// through from now on.
     pub fn enter(&mut self, order: &Order) -> Result<(), NoMemory>
         ensures added { OnOk result (self.new ≡ with_asked order.now self.old) }
         ensures same { OnErr result (self.new ≡ self.old) }
@@ -147,7 +153,8 @@ impl Roll {
         }
     }
 
-    /// Lets a report through, and returns it, if it is of a start that hasn't ended; None for any other report.
+    /// Lets a report through, and returns it, if it is of a start that hasn't ended; None for any
+    /// other report.
     pub fn pass(&mut self, report: Report) -> Option<Report>
         ensures same { IfSome result (λ r. r ≡ report) }
         ensures asked { IfSome result (λ r. IsOfAsked self.old.asked r) }

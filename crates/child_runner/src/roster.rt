@@ -1,19 +1,21 @@
-//! The list of the keeper, the thread that starts the threads of children: those whose threads are still to be started or still run.
+//! The list of the keeper, the thread that starts the threads of children: those whose threads are
+//! still to be started or still run.
 use crate::shared_child::ServiceProcess;
 use s6_events::NoMemory;
 use std::alloc::Global;
 use std::sync::{Arc, Condvar, Mutex, Wait};
 
-// A child on the list. `for_thread` is the child once more, until its thread takes it; `is_running` is whether the child was started.
+// A child on the list. `for_thread` is the child once more, until its thread takes it; `is_running`
+// is whether the child was started.
 #[derive(Drop)]
-struct Entry {
+struct ListedChild {
     process: Arc<ServiceProcess, Global>,
     // The same, until its thread has it.
     for_thread: Option<Arc<ServiceProcess, Global>>,
     is_running: bool,
 }
 
-impl Entry {
+impl ListedChild {
     // Whether the child runs and no thread has taken it yet, so that its thread is to be started.
     fn needs_thread(&self) -> bool {
         self.is_running && self.for_thread.is_some()
@@ -23,12 +25,13 @@ impl Entry {
 // The children on the list, the number that the next one gets, and whether no more are taken.
 #[derive(Drop)]
 struct Entries {
-    entries: Vec<Entry>,
+    entries: Vec<ListedChild>,
     next_number: u64,
     is_ending: bool,
 }
 
-/// The children of all backends that share a keeper. `changed` wakes the keeper's thread when a child needs its thread, or has left.
+/// The children of all backends that share a keeper. `changed` wakes the keeper's thread when a
+/// child needs its thread, or has left.
 #[derive(Drop)]
 pub(crate) struct ChildList {
     entries: Mutex<Entries>,
@@ -36,7 +39,8 @@ pub(crate) struct ChildList {
 }
 
 impl Entries {
-    // The index of the child with this number, which `take_number` gave; None where it isn't on the list.
+    // The index of the child with this number, which `take_number` gave; None where it isn't on the
+    // list.
     fn place(&self, number: u64) -> Option<usize> {
         self.entries
             .as_slice()
@@ -57,8 +61,8 @@ impl Entries {
         self.place_of_next().is_some() || (self.is_ending && self.entries.is_empty())
     }
 
-    // The first child whose thread is to be started, for that thread; None where there is none. The child stays on the list, but is never given
-    // again.
+    // The first child whose thread is to be started, for that thread; None where there is none. The
+    // child stays on the list, but is never given again.
     fn take_next(&mut self) -> Option<Arc<ServiceProcess, Global>> {
         let place = self.place_of_next()?;
         self.entries.get_mut(place)?.for_thread.take()
@@ -100,7 +104,8 @@ impl ChildList {
         }
     }
 
-    /// A number that no child of this roster has. By it a backend names the child that it starts next.
+    /// A number that no child of this roster has. By it a backend names the child that it starts
+    /// next.
     pub fn take_number<R: Wait>(&self, rt: &R) -> u64 {
         let mut entries = self.entries.lock(rt);
         let number = entries.next_number;
@@ -119,9 +124,8 @@ impl ChildList {
         rt: &R,
         process: &Arc<ServiceProcess, Global>,
     ) -> Result<(), NoMemory> {
-        let entry = Entry {
+        let entry = ListedChild {
             process: Arc::try_clone(process)?,
-            // The child once more, for its thread.
             for_thread: Some(Arc::try_clone(process)?),
             is_running: false,
         };
@@ -130,13 +134,13 @@ impl ChildList {
     }
 
     /// The child runs, and is to get its thread.
-    pub fn begin<R: Wait>(&self, rt: &R, number: u64) {
+    pub fn note_running<R: Wait>(&self, rt: &R, number: u64) {
         self.entries.lock(rt).set_running(number);
         self.changed.notify_all();
     }
 
     /// The child has ended, or never ran.
-    pub fn leave<R: Wait>(&self, rt: &R, number: u64) {
+    pub fn remove_child<R: Wait>(&self, rt: &R, number: u64) {
         self.entries.lock(rt).remove(number);
         self.changed.notify_all();
     }
@@ -156,8 +160,8 @@ impl ChildList {
         self.changed.notify_all();
     }
 
-    /// Gives up a child that wasn't given up before, so that nobody listens to it from now on, and returns it; None where there is none, or memory
-    /// is refused.
+    /// Gives up a child that wasn't given up before, so that nobody listens to it from now on, and
+    /// returns it; None where there is none, or memory is refused.
     pub fn give_one_up<R: Wait>(&self, rt: &R) -> Option<Arc<ServiceProcess, Global>> {
         let entries = self.entries.lock(rt);
         for entry in entries.entries.as_slice() {

@@ -1,4 +1,5 @@
-//! A child, the process of a service's program, as its backend and its two threads share it: one waits for it, and one reads its output.
+//! A child, the process of a service's program, as its backend and its two threads share it: one
+//! waits for it, and one reads its output.
 use crate::bell::Bell;
 use crate::end_mark::END_MARK;
 use crate::progress::Progress;
@@ -11,18 +12,21 @@ use std::process::{Child, SystemProcess};
 use std::sync::{Arc, Condvar, Mutex, Wait};
 use std::time::{Clock, Duration};
 
-/// How long the report of an end waits at most for all that the child wrote to be read, in milliseconds.
+/// How long the report of an end waits at most for all that the child wrote to be read, in
+/// milliseconds.
 const LAST_WORDS: u64 = 1000;
 
-/// The pipe by which a child's output is read: the end that is read, and a second writing end beside the child's.
+/// The pipe by which a child's output is read: the end that is read, and a second writing end
+/// beside the child's.
 #[derive(Drop)]
 pub(crate) struct Pipe {
     pub reader: PipeReader,
     pub writer: PipeWriter,
 }
 
-/// A child: what is known of it, and what its threads are to take over. `number` is its number on the keeper's list, not that of its process;
-/// `bell` rings when it has something to report; `changed` wakes those that wait for a change of `progress`.
+/// A child: what is known of it, and what its threads are to take over. `number` is its number on
+/// the keeper's list, not that of its process; `bell` rings when it has something to report;
+/// `changed` wakes those that wait for a change of `progress`.
 #[derive(Drop)]
 pub(crate) struct ServiceProcess {
     pub number: u64,
@@ -40,7 +44,8 @@ pub(crate) struct ServiceProcess {
 }
 
 impl ServiceProcess {
-    /// A child that is about to start. `number` is its number on the keeper's list; the bell rings when there is something to report of it.
+    /// A child that is about to start. `number` is its number on the keeper's list; the bell rings
+    /// when there is something to report of it.
     pub fn new(number: u64, start: &Start, name: &Name, bell: Arc<Bell, Global>) -> ServiceProcess {
         ServiceProcess {
             number,
@@ -49,8 +54,8 @@ impl ServiceProcess {
             bell,
             progress: Mutex::new(Progress::new()),
             changed: Condvar::new(),
-            // Set once it runs: the child and the reading end of its output's pipe, which its threads take over, and a second writing end, for the
-            // end mark.
+            // Set once it runs: the child and the reading end of its output's pipe, which its
+            // threads take over, and a second writing end, for the end mark.
             child: Mutex::new(None),
             reader: Mutex::new(None),
             writer: Mutex::new(None),
@@ -63,7 +68,8 @@ impl ServiceProcess {
         self.bell.ring(rt);
     }
 
-    /// Notes that the child runs, keeps what its threads are to take over, and rings for the report of its start.
+    /// Notes that the child runs, keeps what its threads are to take over, and rings for the report
+    /// of its start.
     pub fn begin<R: Wait>(&self, rt: &R, child: Child<SystemProcess>, pipe: Option<Pipe>) {
         self.progress
             .lock(rt)
@@ -86,8 +92,8 @@ impl ServiceProcess {
         self.reader.lock(rt).take()
     }
 
-    /// The child's process number, if a signal may be sent to it now; then `end_signal` has to follow. It waits first until no other shell
-    /// is under way.
+    /// The child's process number, if a signal may be sent to it now; then `end_signal` has to
+    /// follow. It waits first until no other shell is under way.
     pub fn begin_signal<R: Wait>(&self, rt: &R) -> Option<u32> {
         let progress = self.progress.lock(rt);
         let mut progress = self
@@ -104,8 +110,8 @@ impl ServiceProcess {
         self.bell.ring(rt);
     }
 
-    /// Keeps these bytes that the child wrote, at most 64, until they are told. It waits until there is room for them, or they are wanted no
-    /// more.
+    /// Keeps these bytes that the child wrote, at most 64, until they are told. It waits until
+    /// there is room for them, or they are wanted no more.
     pub fn write<R: Wait>(&self, rt: &R, bytes: &[u8]) {
         let count = bytes.len();
         let progress = self.progress.lock(rt);
@@ -119,7 +125,8 @@ impl ServiceProcess {
         self.bell.ring(rt);
     }
 
-    /// Notes that nothing more of what the child writes is read. Closes the ends of the pipe that are still here.
+    /// Notes that nothing more of what the child writes is read. Closes the ends of the pipe that
+    /// are still here.
     pub fn stop_reading<R: Wait>(&self, rt: &R) {
         let writer = self.writer.lock(rt).take();
         drop(writer);
@@ -129,15 +136,16 @@ impl ServiceProcess {
         self.changed.notify_all();
     }
 
-    /// Notes that the child wrote its first newline, and that what it wrote up to there was taken in: the report of its end waits for no more
-    /// output.
+    /// Notes that the child wrote its first newline, and that what it wrote up to there was taken
+    /// in: the report of its end waits for no more output.
     pub fn stop_hearing<R: Wait>(&self, rt: &R) {
         self.progress.lock(rt).stop_hearing();
         self.changed.notify_all();
     }
 
-    /// Notes that the child ended with `exit`, and was waited for: no signal begins from now on. Its end can be reported once all that it
-    /// wrote, up to its first newline, was read, or after a second, and not while a shell is under way.
+    /// Notes that the child ended with `exit`, and was waited for: no signal begins from now on.
+    /// Its end can be reported once all that it wrote, up to its first newline, was read, or after
+    /// a second, and not while a shell is under way.
     pub fn end<R: Wait + Clock>(&self, rt: &R, exit: Exit) {
         self.progress.lock(rt).begin_to_end();
         // The thread that reads stops there.
@@ -150,7 +158,8 @@ impl ServiceProcess {
             .wait_timeout_while(rt, progress, time, |known| !known.may_end());
         progress.end(exit);
         drop(progress);
-        // Wakes those that wait for a change of `progress`; the bell tells the backend that it has a report.
+        // Wakes those that wait for a change of `progress`; the bell tells the backend that it has
+        // a report.
         self.changed.notify_all();
         self.bell.ring(rt);
     }
@@ -165,7 +174,8 @@ impl ServiceProcess {
         self.progress.lock(rt).is_output_read()
     }
 
-    /// Writes the end mark, if it wasn't written yet, so that the thread that reads stops behind what the child wrote before.
+    /// Writes the end mark, if it wasn't written yet, so that the thread that reads stops behind
+    /// what the child wrote before.
     pub fn write_end_mark<R: Wait>(&self, rt: &R) {
         let writer = self.writer.lock(rt).take();
         if let Some(mut writer) = writer {

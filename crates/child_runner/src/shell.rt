@@ -33,8 +33,8 @@ impl ShellProbe {
         ShellProbe { shell }
     }
 
-    /// Waits for the shell. True where signals can be sent: `/bin/sh` could be run, and its `kill` ended with 0. False also where memory
-    /// was refused, or the system had no room for a process.
+    /// Waits for the shell. True where signals can be sent: `/bin/sh` could be run, and its `kill`
+    /// ended with 0. False also where memory was refused, or the system had no room for a process.
     pub fn has_shell(self) -> bool {
         match self.shell {
             Some(mut shell) => matches!(shell.wait(), Ok(status) if status.success()),
@@ -43,15 +43,17 @@ impl ShellProbe {
     }
 }
 
-/// Has a shell send a child a signal, if the child wasn't waited for yet, and waits for the shell. `Busy` where the system has no room for
-/// the shell now, `NoMemory` where memory is refused: then no signal was sent.
+/// Has a shell send a child a signal, if the child wasn't waited for yet, and waits for the shell.
+/// `Busy` where the system has no room for the shell now, `NoMemory` where memory is refused: then
+/// no signal was sent.
 pub(crate) fn signal_child<R: Processes + Wait>(
     rt: &R,
     alloc: Global,
     process: &ServiceProcess,
     signal: u8,
 ) -> Result<Sending, AskFault> {
-    // None where the child never lived, or was waited for, so that its process number may be that of another process by now.
+    // None where the child never lived, or was waited for, so that its process number may be that
+    // of another process by now.
     let Some(pid) = process.begin_signal(rt) else {
         return Ok(Sending::Done);
     };
@@ -60,8 +62,9 @@ pub(crate) fn signal_child<R: Processes + Wait>(
     sent
 }
 
-// Has a shell send `signal` to the process of this number, and waits for the shell. `NoShell` where no shell can do that, `Busy` where the
-// system has no room for one now, `NoMemory` where memory is refused.
+// Has a shell send `signal` to the process of this number, and waits for the shell. `NoShell` where
+// no shell can do that, `Busy` where the system has no room for one now, `NoMemory` where memory is
+// refused.
 fn run_kill<R: Processes>(
     rt: &R,
     alloc: Global,
@@ -79,7 +82,8 @@ fn run_kill<R: Processes>(
     }
 }
 
-// Whether the program can be started neither now nor later, because it isn't there or may not be run.
+// Whether the program can be started neither now nor later, because it isn't there or may not be
+// run.
 fn is_lasting(error: &io::Error) -> bool {
     matches!(
         error.kind(),
@@ -87,8 +91,8 @@ fn is_lasting(error: &io::Error) -> bool {
     )
 }
 
-// What became of a signal, by the end of its shell. A shell that can't run `kill` ends with 126 or 127; any other end counts as sent, since
-// the child may have ended before.
+// What became of a signal, by the end of its shell. A shell that can't run `kill` ends with 126 or
+// 127; any other end counts as sent, since the child may have ended before.
 fn sending_of(ended: io::Result<ExitStatus>) -> Sending {
     match ended {
         Ok(status) if matches!(status.code(), Some(126 | 127)) => Sending::NoShell,

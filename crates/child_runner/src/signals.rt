@@ -1,14 +1,17 @@
-//! When a signal may be sent to a child's process number: by one shell at a time, until the child was waited for (reaped).
+//! When a signal may be sent to a child's process number: by one shell at a time, until the child
+//! was waited for (reaped).
 ghost use Rattle.std.specs.Prelude.{◌≡◌, ◌↔◌, IsTrue, Some, None, IfSome, IfNone, true, false};
 
-/// What keeps the reaping of a child and the signals to it apart. It is behind a lock, which nobody holds while a shell runs: meanwhile
-/// only `is_shell_out` is set. A signal begins only where the child wasn't reaped and no other shell is under way. The child's end is told
-/// only once no shell is under way.
+/// What keeps the reaping of a child and the signals to it apart. It is behind a lock, which nobody
+/// holds while a shell runs: meanwhile only `is_shell_out` is set. A signal begins only where the
+/// child wasn't reaped and no other shell is under way. The child's end is told only once no shell
+/// is under way.
 ///
-/// `Child::wait` reaps inside the system's call, which blocks, so the reaping itself can't be done under the lock. The kit has no wait that
-/// leaves the child unreaped, and no descriptor of a process. So there is a moment, from the reaping in the system until `is_reaped` is set
-/// here, in which a signal can still begin, and in which a shell that began before may send one. It would reach a stranger only if the
-/// system gave the number to a new process in that very moment.
+/// `Child::wait` reaps inside the system's call, which blocks, so the reaping itself can't be done
+/// under the lock. The kit has no wait that leaves the child unreaped, and no descriptor of a
+/// process. So there is a moment, from the reaping in the system until `is_reaped` is set here, in
+/// which a signal can still begin, and in which a shell that began before may send one. It would
+/// reach a stranger only if the system gave the number to a new process in that very moment.
 #[derive(Drop)]
 pub(crate) struct Signals {
     // The process number of the child, once it lives.
@@ -38,7 +41,8 @@ impl Signals {
         self.pid = Some(pid);
     }
 
-    /// A shell is to send it a signal. Returns its process number, if it may be sent one now; then `end_signal` has to follow.
+    /// A shell is to send it a signal. Returns its process number, if it may be sent one now; then
+    /// `end_signal` has to follow.
     pub fn begin_signal(&mut self) -> Option<u32>
         ensures living { IfSome result (λ _. self.old.is_reaped ≡ false) }
         ensures alone { IfSome result (λ _. self.old.is_shell_out ≡ false) }

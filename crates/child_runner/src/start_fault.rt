@@ -1,4 +1,5 @@
-//! Why a program can't be started: for good, or for a fault of the moment, so that it is tried again.
+//! Why a program can't be started: for good, or for a fault of the moment, so that it is tried
+//! again.
 ghost use Rattle.std.specs.Prelude.{◌≡◌};
 ghost use Rattle.child_runner.specs.Trials.{is_passing};
 
@@ -13,8 +14,8 @@ pub(crate) enum StartFault {
     Lasting,
 }
 
-/// What the system answers: a disk failed; too much is asked at once; no memory; no descriptor for any process, or for this one; the file is open
-/// for writing.
+/// What the system answers: a disk failed; too much is asked at once; no memory; no descriptor for
+/// any process, or for this one; the file is open for writing.
 const EIO: u32 = 5;
 
 const EAGAIN: u32 = 11;

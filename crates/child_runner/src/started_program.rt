@@ -1,4 +1,5 @@
-//! Which program was started: `run` or `finish` of a service, which its serial (`sid`) names. The generation counts the starts of the service.
+//! Which program was started: `run` or `finish` of a service, which its serial (`sid`) names. The
+//! generation counts the starts of the service.
 ghost use Rattle.std.specs.Prelude.{◌≡◌};
 ghost use Rattle.child_runner.specs.Roll.{is_last};
 

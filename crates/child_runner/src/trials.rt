@@ -1,4 +1,5 @@
-//! Starts that failed for a fault of the moment: when each is tried again, and whom nobody wants any more.
+//! Starts that failed for a fault of the moment: when each is tried again, and whom nobody wants
+//! any more.
 ghost use Rattle.std.specs.Prelude.{◌≡◌};
 ghost use Rattle.child_runner.specs.Trials.{begun_at, time_left, is_over, tried_at, is_unwanted};
 
@@ -9,10 +10,10 @@ use std::sync::Arc;
 use std::time::{Clock, Duration};
 
 /// How long after a try the next one comes, in milliseconds.
-pub(crate) const TRY_PAUSE: u64 = 100;
+pub(crate) const TRIAL_PAUSE: u64 = 100;
 
 /// For how long a start is tried, in milliseconds.
-pub(crate) const TRY_TIME: u64 = 5_000;
+pub(crate) const TRIAL_TIME: u64 = 5_000;
 
 /// When a start was tried first, and when last, in milliseconds of the system's clock.
 #[derive(Clone, Copy, PartialEq, Eq, Debug)]
@@ -36,14 +37,14 @@ impl Schedule {
     pub fn time_left(&self, now: u64) -> u64
         ensures { result ≡ time_left now self.now }
     {
-        TRY_PAUSE.saturating_sub(now.saturating_sub(self.tried))
+        TRIAL_PAUSE.saturating_sub(now.saturating_sub(self.tried))
     }
 
     /// Whether it is given up, if it fails at the moment `now`.
     pub fn is_over(&self, now: u64) -> bool
         ensures { result ≡ is_over now self.now }
     {
-        now.saturating_sub(self.begun) >= TRY_TIME
+        now.saturating_sub(self.begun) >= TRIAL_TIME
     }
 
     /// Notes that it was tried at the moment `now`.
@@ -82,7 +83,8 @@ impl Unwanted {
     }
 }
 
-/// A start that is tried again: the child, which counts as starting meanwhile, and the order to start it.
+/// A start that is tried again: the child, which counts as starting meanwhile, and the order to
+/// start it.
 #[derive(Drop)]
 pub(crate) struct Trial {
     pub process: Arc<ServiceProcess, Global>,
@@ -90,7 +92,8 @@ pub(crate) struct Trial {
     pub schedule: Schedule,
 }
 
-/// The present moment of the system's monotonic clock, in milliseconds; 0 where the system has none.
+/// The present moment of the system's monotonic clock, in milliseconds; 0 where the system has
+/// none.
 pub(crate) fn millis_of<R: Clock>(rt: &R) -> u64 {
     let passed = rt.monotonic().unwrap_or(Duration::from_millis(0));
     u64::try_from(passed.as_millis()).unwrap_or(u64::MAX)

@@ -1,4 +1,5 @@
-//! The threads of one child: one waits for it, and another reads its output, up to the mark that is written behind the child's last byte.
+//! The threads of one child: one waits for it, and another reads its output, up to the mark that is
+//! written behind the child's last byte.
 ghost use Rattle.std.specs.Prelude.{◌≤◌, length};
 
 use crate::end_mark::{Telling, telling_of};
@@ -19,7 +20,8 @@ use std::time::Clock;
 /// How much stack a thread gets, in bytes.
 pub(crate) const STACK: usize = 256 * 1024;
 
-/// Waits for the child and tells how it ended, while another thread reads its output. Then takes the child off the roster.
+/// Waits for the child and tells how it ended, while another thread reads its output. Then takes
+/// the child off the roster.
 pub(crate) fn watch<R: Threads + Wait + Clock + Copy + Send + Drop + 'static>(
     rt: R,
     roster: &ChildList,
@@ -32,11 +34,11 @@ pub(crate) fn watch<R: Threads + Wait + Clock + Copy + Send + Drop + 'static>(
             listener.join(&rt);
         }
     }
-    roster.leave(&rt, process.number);
+    roster.remove_child(&rt, process.number);
 }
 
-// Waits for the child and tells how it ended. Returns the thread that reads its output, if there is one. A child whose output is to be read
-// is killed where there can be no such thread.
+// Waits for the child and tells how it ended. Returns the thread that reads its output, if there is
+// one. A child whose output is to be read is killed where there can be no such thread.
 fn await_end<R: Threads + Wait + Clock + Copy + Send + Drop + 'static>(
     rt: R,
     process: &Arc<ServiceProcess, Global>,
@@ -95,8 +97,8 @@ fn exit_of(status: io::Result<ExitStatus>) -> Exit {
 /// The most bytes that were read and not told to the tree yet: as many as a report holds.
 const PART: usize = 64;
 
-/// What the thread that reads a child's output keeps: what was read and not told yet, how many bytes more may be told, and whether the first
-/// newline was told.
+/// What the thread that reads a child's output keeps: what was read and not told yet, how many
+/// bytes more may be told, and whether the first newline was told.
 #[derive(Drop)]
 struct Hearing {
     // What was read and not told yet.
@@ -106,8 +108,8 @@ struct Hearing {
     is_told: bool,
 }
 
-// Tells what the child writes up to its first newline, and reads on until the end mark, since a daemon that still writes would die of a
-// closed pipe.
+// Tells what the child writes up to its first newline, and reads on until the end mark, since a
+// daemon that still writes would die of a closed pipe.
 fn listen<R: Wait + Drop>(rt: R, process: Arc<ServiceProcess, Global>) {
     if let Some(mut reader) = process.take_reader(&rt) {
         listen_to(&rt, &process, &mut reader);
@@ -115,9 +117,11 @@ fn listen<R: Wait + Drop>(rt: R, process: Arc<ServiceProcess, Global>) {
     }
 }
 
-// Reads the child's output until the end mark or the end of the pipe, and tells what the child writes up to its first newline.
+// Reads the child's output until the end mark or the end of the pipe, and tells what the child
+// writes up to its first newline.
 fn listen_to<R: Wait>(rt: &R, process: &ServiceProcess, reader: &mut PipeReader) {
-    // What was read and not told yet, how many bytes more may be told, and whether the first newline was told.
+    // What was read and not told yet, how many bytes more may be told, and whether the first
+    // newline was told.
     let mut hearing = Hearing {
         heard: ArrayVec::new(),
         limit: LineLimit::new(),
@@ -146,10 +150,11 @@ fn read_more(reader: &mut PipeReader, heard: &mut ArrayVec<u8, PART>) -> bool {
     }
 }
 
-// Tells those of the bytes read so far that may be told now, which at the end of the output are all. Returns whether nothing more will be
-// read.
+// Tells those of the bytes read so far that may be told now, which at the end of the output are
+// all. Returns whether nothing more will be read.
 fn hear<R: Wait>(rt: &R, process: &ServiceProcess, hearing: &mut Hearing, is_at_end: bool) -> bool {
-    // How many bytes may be told, and whether the mark follows them. It counts only once the child was waited for, or nobody listens.
+    // How many bytes may be told, and whether the mark follows them. It counts only once the child
+    // was waited for, or nobody listens.
     let mut telling = telling_of(hearing.heard.as_slice(), process.is_mark_due(rt));
     if is_at_end && !telling.is_last {
         telling = Telling {
@@ -175,7 +180,8 @@ fn tell<R: Wait>(rt: &R, process: &ServiceProcess, hearing: &mut Hearing, count:
     hearing.heard = rest;
 }
 
-// Tells these bytes up to the first newline, as far as the limit allows. Returns whether there was a newline.
+// Tells these bytes up to the first newline, as far as the limit allows. Returns whether there was
+// a newline.
 fn tell_line<R: Wait>(
     rt: &R,
     process: &ServiceProcess,

@@ -1,5 +1,5 @@
 //! The commands of the script.
-use crate::stage::Stage;
+use crate::stage::TestStage;
 use child_runner::ShellProbe;
 use std::fs::File;
 use std::io::{self, ErrorKind};
@@ -10,7 +10,8 @@ use std::sync::atomic::Ordering;
 use std::thread::Threads;
 use std::time::Clock;
 
-/// What a shell does for `write`: the words are a service, the name and the mode of its program, and the script that this is.
+/// What a shell does for `write`: the words are a service, the name and the mode of its program,
+/// and the script that this is.
 const WRITE: &str = "read -r service file mode script <<END
 $0
 END
@@ -41,7 +42,7 @@ impl<
         + Sync
         + Drop
         + 'static,
-> Stage<R> {
+> TestStage<R> {
     /// Carries the script out, line by line. An error names its line.
     pub fn try_all(&mut self, script: &str) -> io::Result<()> {
         for line in script.lines() {

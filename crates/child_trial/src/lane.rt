@@ -20,14 +20,16 @@ pub enum Carrier<R> {
 
 /// A backend under trial, and its bell.
 #[derive(Drop)]
-pub struct Lane<R> {
+pub struct TrialLane<R> {
     /// The backend.
     pub carrier: Carrier<R>,
     /// Its bell.
     pub bell: Arc<Bell, Global>,
 }
 
-impl<R: Processes<Started = SystemProcess> + Files<File = File> + Wait + Clock + Drop> Lane<R> {
+impl<R: Processes<Started = SystemProcess> + Files<File = File> + Wait + Clock + Drop> TrialLane<
+    R,
+> {
     /// Asks an order. Whether it was taken.
     pub fn ask(&mut self, order: Order) -> bool {
         match &mut self.carrier {

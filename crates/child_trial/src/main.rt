@@ -1,4 +1,5 @@
-//! Tries the backend of real processes: carries out the commands of standard input, and prints what was reported.
+//! Tries the backend of real processes: carries out the commands of standard input, and prints what
+//! was reported.
 #![tactic(auto)]
 
 mod commands;
@@ -11,7 +12,7 @@ mod stage;
 mod words;
 
 use gate::start_lane;
-use stage::Stage;
+use stage::TestStage;
 use std::sync::Arc;
 use std::{env, fs, io, process};
 
@@ -26,7 +27,7 @@ fn main(rt: HostRuntime) -> io::Result<()> {
     let script = io::read_to_string(rt.alloc(), rt.reader())?;
     let root = root_of(&rt)?;
     fs::create_dir_all(&rt, root.as_str())?;
-    let mut stage = Stage::new(rt, rt.alloc(), root.as_str())?;
+    let mut stage = TestStage::new(rt, rt.alloc(), root.as_str())?;
     let (backend, wires) = stage.open_lane()?;
     let link = Arc::try_clone(&wires.link)?;
     let thread = start_lane(rt, wires, backend)?;

@@ -1,6 +1,6 @@
 //! The commands on notes for standard error.
 use crate::commands::{cut, number_of};
-use crate::stage::Stage;
+use crate::stage::TestStage;
 use error_notes::{NoteWriter, Notes, start_notes, write_notes};
 use std::alloc::Global;
 use std::fs::File;
@@ -37,7 +37,7 @@ fn say_written<R: Print>(
     println!(rt; "a thread of notes: written {is_written}, both lines {are_whole}")
 }
 
-impl<R: Print + Processes + Wait> Stage<R> {
+impl<R: Print + Processes + Wait> TestStage<R> {
     /// Posts the lines that two words are, so often.
     pub fn post(&self, words: &str) -> io::Result<()> {
         let (times, lines) = cut(words);
@@ -59,7 +59,7 @@ impl<R: Print + Processes + Wait> Stage<R> {
 
 impl<
     R: Print + Files<File = File> + Threads + Wait + Clock + Copy + Send + Sync + Drop + 'static,
-> Stage<R> {
+> TestStage<R> {
     /// A thread writes notes to a pipe; a line that came in parts is whole.
     pub fn try_thread(&self) -> io::Result<()> {
         let (mut reader, writer) = io::pipe(&self.rt)?;

@@ -1,6 +1,6 @@
 //! The commands that are orders.
 use crate::commands::{cut, number_of};
-use crate::stage::Stage;
+use crate::stage::TestStage;
 use s6_events::{Name, Order, Sid};
 use std::fs::File;
 use std::io::{self, ErrorKind};
@@ -42,7 +42,7 @@ fn range_of(services: &str) -> io::Result<(u64, u64)> {
 
 impl<
     R: Print + Processes<Started = SystemProcess> + Files<File = File> + Wait + Clock + Drop,
-> Stage<R> {
+> TestStage<R> {
     /// Asks an order for each of some services, and prints which are refused.
     pub fn ask_all(&mut self, verb: &str, words: &str) -> io::Result<()> {
         let (services, words) = cut(words);

@@ -1,6 +1,6 @@
 //! The commands that take reports.
 use crate::commands::{cut, number_of};
-use crate::stage::Stage;
+use crate::stage::TestStage;
 use crate::words::line_of;
 use std::fmt::Write;
 use std::fs::File;
@@ -18,7 +18,7 @@ const LIMIT: u64 = 1000;
 
 impl<
     R: Print + Processes<Started = SystemProcess> + Files<File = File> + Wait + Clock + Drop,
-> Stage<R> {
+> TestStage<R> {
     // The next report, in words, or that none came in time.
     fn next_line(&mut self, millis: u64) -> io::Result<String> {
         match self.next_report(millis) {
@@ -27,7 +27,8 @@ impl<
         }
     }
 
-    // Adds the next report to what was told. Whether what it says begins with this word, or none came.
+    // Adds the next report to what was told. Whether what it says begins with this word, or none
+    // came.
     fn add_line(&mut self, last: &str, told: &mut String) -> io::Result<bool> {
         let line = self.next_line(PATIENCE)?;
         writeln!(told, "{}", line.as_str())?;

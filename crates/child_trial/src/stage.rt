@@ -1,6 +1,6 @@
 //! What the commands work on: backends, their keeper and their services.
 use crate::gate::Wires;
-use crate::lane::{Carrier, Lane};
+use crate::lane::{Carrier, TrialLane};
 use child_runner::{Bell, Keeper, LaneLink, LinkedBackend, ProcessBackend};
 use error_notes::Notes;
 use order_lanes::Report;
@@ -17,7 +17,7 @@ use std::time::Clock;
 
 /// The stage of a trial.
 #[derive(Drop)]
-pub struct Stage<R> {
+pub struct TestStage<R> {
     /// The runtime.
     pub rt: R,
     /// What allocates.
@@ -31,7 +31,7 @@ pub struct Stage<R> {
     // The keeper of that lane, and those of the others that weren't ended yet.
     keepers: Vec<Keeper<R>>,
     // That lane, and then the backends of the other keepers.
-    lanes: Vec<Lane<R>>,
+    lanes: Vec<TrialLane<R>>,
     /// Which of them takes orders and is asked for reports.
     pub chosen: usize,
     /// The process number of the service that was started last.
@@ -61,10 +61,10 @@ fn backend_of<R: Drop>(
 }
 
 // The lane at the other end of a link.
-fn linked_lane<R: Wait + Drop>(rt: R, alloc: Global, wires: &Wires) -> io::Result<Lane<R>> {
+fn linked_lane<R: Wait + Drop>(rt: R, alloc: Global, wires: &Wires) -> io::Result<TrialLane<R>> {
     let bell = Arc::try_clone(&wires.driver)?;
     match LinkedBackend::new(rt, alloc, &wires.link) {
-        Ok(backend) => Ok(Lane {
+        Ok(backend) => Ok(TrialLane {
             carrier: Carrier::Linked(backend),
             bell,
         }),
@@ -72,10 +72,10 @@ fn linked_lane<R: Wait + Drop>(rt: R, alloc: Global, wires: &Wires) -> io::Resul
     }
 }
 
-impl<R: Wait + Copy + Drop> Stage<R> {
+impl<R: Wait + Copy + Drop> TestStage<R> {
     /// A stage in this folder, with an open gate and nothing else.
-    pub fn new(rt: R, alloc: Global, root: &str) -> io::Result<Stage<R>> {
-        Ok(Stage {
+    pub fn new(rt: R, alloc: Global, root: &str) -> io::Result<TestStage<R>> {
+        Ok(TestStage {
             rt,
             alloc,
             root: String::from_str(alloc, root)?,
@@ -95,9 +95,10 @@ fn add_script(command: &mut Command, script: &str, words: &str) -> Result<(), Al
     Ok(())
 }
 
-impl<R: Processes> Stage<R> {
-    /// Runs a script in the folder of the trial, with these words as `$0`. `$number` is the process that was started last. It prints by
-    /// itself, and inherits all, so that no descriptor is opened here for it.
+impl<R: Processes> TestStage<R> {
+    /// Runs a script in the folder of the trial, with these words as `$0`. `$number` is the process
+    /// that was started last. It prints by itself, and inherits all, so that no descriptor is
+    /// opened here for it.
     pub fn run_shell(&self, script: &str, words: &str) -> io::Result<()> {
         let mut command = Command::new(self.alloc, "/bin/sh")?;
         self.run_script(&mut command, script, words)
@@ -112,7 +113,9 @@ impl<R: Processes> Stage<R> {
     }
 }
 
-impl<R: Processes<Started = SystemProcess> + Files<File = File> + Wait + Clock + Drop> Stage<R> {
+impl<R: Processes<Started = SystemProcess> + Files<File = File> + Wait + Clock + Drop> TestStage<
+    R,
+> {
     /// Asks the chosen backend an order. Whether it was taken.
     pub fn ask(&mut self, order: Order) -> bool {
         match self.lanes.get_mut(self.chosen) {
@@ -145,7 +148,7 @@ impl<
         + Sync
         + Drop
         + 'static,
-> Stage<R> {
+> TestStage<R> {
     /// Starts a keeper.
     pub fn start_keeper(&mut self) -> io::Result<()> {
         match Keeper::start(self.rt, self.alloc) {
@@ -191,7 +194,7 @@ impl<
         let (backend, bell) = self.new_backend()?;
         self.chosen = self.lanes.len();
         let carrier = Carrier::Own(backend);
-        self.lanes.push(Lane { carrier, bell })?;
+        self.lanes.push(TrialLane { carrier, bell })?;
         Ok(())
     }
 

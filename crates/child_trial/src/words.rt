@@ -3,7 +3,8 @@ use order_lanes::Report;
 use s6_events::Exit;
 use std::alloc::{AllocError, Global};
 
-/// A report in words: the number of its service, and what it says. A service that writes this process number is ready under its own.
+/// A report in words: the number of its service, and what it says. A service that writes this
+/// process number is ready under its own.
 pub fn line_of(alloc: Global, report: &Report, number: u32) -> Result<String, AllocError> {
     match report {
         Report::Started(sid, _, _) => format!(in alloc; "{} started", sid.0),

@@ -1,4 +1,5 @@
-//! The board of a run, as the driver reads it. A board shows the status rows of all services, as they are after some step.
+//! The board of a run, as the driver reads it. A board shows the status rows of all services, as
+//! they are after some step.
 use channel_names::Channels;
 use status_board::BoardReader;
 
@@ -8,7 +9,8 @@ pub struct RunBoard<C: Channels> {
     pub reader: BoardReader<C>,
     /// How many steps of the run were made.
     pub made: u64,
-    /// Whether the board is known to show the last of them. False where the last drive was refused memory.
+    /// Whether the board is known to show the last of them. False where the last drive was refused
+    /// memory.
     pub is_shown: bool,
 }
 

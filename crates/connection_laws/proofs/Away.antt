@@ -2,12 +2,12 @@
 use Rattle.std.proofs.Common.{rules, refl, ◌≡◌, [], ◌∷◌, ℕ, List, Bool, true, false, nat_lt, if◌then◌else◌}
 use Rattle.server_rules.specs.declared.phase.Errand.{Errand}
 use Rattle.server_rules.specs.declared.phase.Errand.TheVariants as errand
-use Rattle.server_rules.specs.declared.phase.Phase.{Phase}
-use Rattle.server_rules.specs.declared.phase.Phase.TheVariants.{Idle, Stepping, UnderWay, PutOff, LeftStepping, Left, Leaving, Cancelling, Gone}
+use Rattle.server_rules.specs.declared.phase.ClientPhase.{ClientPhase}
+use Rattle.server_rules.specs.declared.phase.ClientPhase.TheVariants.{Idle, Stepping, UnderWay, PutOff, LeftStepping, Left, Leaving, Cancelling, Gone}
 use Rattle.server_rules.specs.declared.requests.Request.{Request}
 use Rattle.server_rules.specs.Connection.{View, Moved, is_here}
 use Rattle.server_rules.specs.Begin.{ends_by}
-use Rattle.server_rules.specs.Standing.{Made, next_ended}
+use Rattle.server_rules.specs.Made.{Made, next_ended}
 use Rattle.connection_laws.specs.History.{Event, Ask, Begin, Answered, Recorded, RefuseErrand, RefuseNext, Told, Leave, moved_by, taken_by}
 use Rattle.connection_laws.specs.Laws.{posted_of}
 
@@ -94,7 +94,7 @@ gone_away asked made (RefuseNext o) = record { gone = refl; silent = refl }
 gone_away asked made (Told news) = record { gone = refl; silent = refl }
 gone_away asked made Leave = record { gone = refl; silent = refl }
 
-away_in : (phase : Phase) (asked : List Request) (made : Made) (event : Event) → is_here phase ≡ false
+away_in : (phase : ClientPhase) (asked : List Request) (made : Made) (event : Event) → is_here phase ≡ false
     → IsAway (moved_by event (record { phase = phase; asked = asked; made = made }))
 away_in Idle asked made event here = search rules
 away_in (Stepping n) asked made event here = search rules
@@ -110,7 +110,7 @@ away_in Gone asked made event here = gone_away asked made event
 pub away : (c : View) (event : Event) → is_here c.phase ≡ false → IsAway (moved_by event c)
 away c event here = away_in c.phase c.asked c.made event here
 
-takes_in : (event : Event) (phase : Phase) (asked : List Request) (made : Made) → is_here phase ≡ false
+takes_in : (event : Event) (phase : ClientPhase) (asked : List Request) (made : Made) → is_here phase ≡ false
     → taken_by event (record { phase = phase; asked = asked; made = made }) ≡ []
 takes_in (Ask coming) phase asked made here = rw here refl
 takes_in (Begin last_step now) phase asked made here = refl

@@ -4,14 +4,14 @@ use Rattle.std.proofs.lemmas.List.{append-nil, append_assoc}
 use Rattle.std.proofs.lemmas.Grind.{flat_map-append}
 use Rattle.std.specs.declared.alloc.Global.{Global}
 use Rattle.tree_core.specs.declared.input.Act.{Act}
-use Rattle.server_rules.specs.declared.phase.Phase.{Phase}
-use Rattle.server_rules.specs.declared.phase.Phase.TheVariants.{Idle, Stepping, UnderWay, PutOff, LeftStepping, Left, Leaving, Cancelling, Gone}
+use Rattle.server_rules.specs.declared.phase.ClientPhase.{ClientPhase}
+use Rattle.server_rules.specs.declared.phase.ClientPhase.TheVariants.{Idle, Stepping, UnderWay, PutOff, LeftStepping, Left, Leaving, Cancelling, Gone}
 use Rattle.server_rules.specs.declared.requests.Request.{Request}
 use Rattle.server_rules.specs.Connection.{View, Moved}
 use Rattle.server_rules.specs.Begin.{ends_by}
 use Rattle.server_rules.specs.declared.following.Following.{Following}
 use Rattle.std.specs.Prelude.{Option}
-use Rattle.server_rules.specs.Standing.{Made, next_ended}
+use Rattle.server_rules.specs.Made.{Made, next_ended}
 use Rattle.connection_laws.specs.History.{Done, Event, Ask, Begin, Answered, Recorded, RefuseErrand, RefuseNext, Told, Leave, History, happens, moved_by}
 use Rattle.connection_laws.specs.Laws.{EndsOnce, ends_of, is_ending, submitted, submitted_by}
 
@@ -71,7 +71,7 @@ gone_ends asked made (RefuseNext o) = record { ending = refl; once = refl }
 gone_ends asked made (Told news) = record { ending = refl; once = refl }
 gone_ends asked made Leave = record { ending = refl; once = refl }
 
-ends_in : (phase : Phase) (asked : List Request) (made : Made) (event : Event) → is_ending phase ≡ true
+ends_in : (phase : ClientPhase) (asked : List Request) (made : Made) (event : Event) → is_ending phase ≡ true
     → IsEnd made (moved_by event (record { phase = phase; asked = asked; made = made }))
 ends_in Leaving asked made event is = leaving_ends asked made event
 ends_in Cancelling asked made event is = cancelling_ends asked made event

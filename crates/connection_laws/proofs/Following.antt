@@ -7,21 +7,21 @@ use Rattle.tree_core.specs.declared.reply.Reply.{Reply}
 use Rattle.server_rules.specs.declared.following.Following.{Following}
 use Rattle.server_rules.specs.declared.own_answer.OwnAnswer.{OwnAnswer}
 use Rattle.server_rules.specs.declared.phase.Errand.TheVariants as errand
-use Rattle.server_rules.specs.declared.phase.Phase.{Phase}
-use Rattle.server_rules.specs.declared.phase.Phase.TheVariants.{Idle, Stepping, UnderWay, PutOff, LeftStepping, Left, Leaving, Cancelling, Gone}
+use Rattle.server_rules.specs.declared.phase.ClientPhase.{ClientPhase}
+use Rattle.server_rules.specs.declared.phase.ClientPhase.TheVariants.{Idle, Stepping, UnderWay, PutOff, LeftStepping, Left, Leaving, Cancelling, Gone}
 use Rattle.server_rules.specs.declared.requests.Request.{Request}
 use Rattle.server_rules.specs.declared.requests.Request.TheVariants.{Step, Status, Scan, Record, Follow, Clock, Refused}
-use Rattle.server_rules.specs.declared.standing.Admission.{Admission}
-use Rattle.server_rules.specs.declared.standing.Admission.TheVariants as admission
-use Rattle.server_rules.specs.declared.standing.StandingChange.{StandingChange}
-use Rattle.server_rules.specs.declared.standing.StandingChange.TheVariants as change
+use Rattle.server_rules.specs.declared.made_things.Admission.{Admission}
+use Rattle.server_rules.specs.declared.made_things.Admission.TheVariants as admission
+use Rattle.server_rules.specs.declared.made_things.MadeChange.{MadeChange}
+use Rattle.server_rules.specs.declared.made_things.MadeChange.TheVariants as change
 use Rattle.server_rules.specs.declared.todo.News.{News}
 use Rattle.server_rules.specs.declared.todo.News.TheVariants as news
 use Rattle.server_rules.specs.declared.todo.Todo.TheVariants as todo
 use Rattle.server_rules.specs.Connection.{View, Moved, stays, takes_requests}
 use Rattle.server_rules.specs.NewsTold.{after_news, is_for}
 use Rattle.server_rules.specs.Begin.{begin_admitted, begin_next, begin_put_off, ends_by, joins, replaces, step_limit, steps_in}
-use Rattle.server_rules.specs.Standing.{Made, admission_of, after_reply, change_of, is_followed, next_ended}
+use Rattle.server_rules.specs.Made.{Made, admission_of, after_reply, change_of, is_followed, next_ended}
 use Rattle.server_rules.specs.StatusAge.{is_recent}
 use Rattle.connection_laws.specs.History.{Event, Ask, Begin, Answered, Recorded, RefuseErrand, RefuseNext, Told, Leave, History, happens, moved_by, opened, taken_by}
 use Rattle.connection_laws.specs.Laws.{asks_for}
@@ -109,7 +109,7 @@ asked_keeps true coming c = record {
 }
 asked_keeps false coming c = stays_so c c [] refl refl
 
-steps_same : (ch : StandingChange) (n : ℕ) (act : Act Global) (c : View) → IsSame c (steps_in ch n act c).next
+steps_same : (ch : MadeChange) (n : ℕ) (act : Act Global) (c : View) → IsSame c (steps_in ch n act c).next
 steps_same change.Other n act c = (refl, refl)
 steps_same change.MakesWaiter n act c = (refl, refl)
 steps_same change.MakesSubscription n act c = (refl, refl)
@@ -158,7 +158,7 @@ first_keeps (Follow services ∷ rest) made last_step now = follows_keeps servic
 first_keeps (Clock ∷ rest) made last_step now = begun_keeps Clock rest made _ (refl, refl)
 first_keeps (Refused o ∷ rest) made last_step now = begun_keeps (Refused o) rest made _ (refl, refl)
 
-joined_keeps : (ch : StandingChange) (n : ℕ) (act : Act Global) (rest : List Request) (c : View) → c.asked ≡ Step act ∷ rest
+joined_keeps : (ch : MadeChange) (n : ℕ) (act : Act Global) (rest : List Request) (c : View) → c.asked ≡ Step act ∷ rest
     → Keeps c [] (joins ch n act rest c).next
 joined_keeps change.Other n act rest c waits = first_begun c _ (Step act) waits refl
 joined_keeps change.MakesWaiter n act rest c waits = stays_so c c [] refl refl
@@ -188,7 +188,7 @@ ends_keeps [] (id ∷ waiters) subscriptions c = stays_so c _ [] refl refl
 ends_keeps [] [] (id ∷ subscriptions) c = stays_so c _ [] refl refl
 ends_keeps [] [] [] c = record { asked = λ p is. or_left (list_any p c.asked) false is; follows = λ name is. search rules }
 
-begins_keeps : (phase : Phase) (waits : List Request) (made : Made) (last_step now : ℕ)
+begins_keeps : (phase : ClientPhase) (waits : List Request) (made : Made) (last_step now : ℕ)
     → Keeps (record { phase = phase; asked = waits; made = made }) []
     (moved_by (Begin last_step now) (record { phase = phase; asked = waits; made = made })).next
 begins_keeps Idle waits made last_step now = first_keeps waits made last_step now
@@ -204,10 +204,10 @@ begins_keeps Cancelling waits made last_step now = stays_so _ _ [] refl refl
 begins_keeps Gone waits made last_step now = stays_so _ _ [] refl refl
 
 -- a reply changes nothing of what is followed
-replied_same : (ch : StandingChange) (r : Reply Global) (made : Made) → (after_reply ch r made).follows ≡ made.follows
+replied_same : (ch : MadeChange) (r : Reply Global) (made : Made) → (after_reply ch r made).follows ≡ made.follows
 replied_same ch r made = search rules
 
-answered_same : (phase : Phase) (r : Reply Global) (waits : List Request) (made : Made)
+answered_same : (phase : ClientPhase) (r : Reply Global) (waits : List Request) (made : Made)
     → IsSame (record { phase = phase; asked = waits; made = made })
     (moved_by (Answered r) (record { phase = phase; asked = waits; made = made })).next
 answered_same Idle r waits made = (refl, refl)
@@ -228,17 +228,17 @@ answered_same Leaving r waits made = (refl, refl)
 answered_same Cancelling r waits made = (refl, refl)
 answered_same Gone r waits made = (refl, refl)
 
-recorded_same : (phase : Phase) (steps : ℕ) (waits : List Request) (made : Made)
+recorded_same : (phase : ClientPhase) (steps : ℕ) (waits : List Request) (made : Made)
     → IsSame (record { phase = phase; asked = waits; made = made })
     (moved_by (Recorded steps) (record { phase = phase; asked = waits; made = made })).next
 recorded_same phase steps waits made = search rules
 
-refused_same : (phase : Phase) (o : OwnAnswer) (waits : List Request) (made : Made)
+refused_same : (phase : ClientPhase) (o : OwnAnswer) (waits : List Request) (made : Made)
     → IsSame (record { phase = phase; asked = waits; made = made })
     (moved_by (RefuseErrand o) (record { phase = phase; asked = waits; made = made })).next
 refused_same phase o waits made = search rules
 
-unasked_keeps : (phase : Phase) (waits : List Request) (made : Made) (o : OwnAnswer)
+unasked_keeps : (phase : ClientPhase) (waits : List Request) (made : Made) (o : OwnAnswer)
     → Keeps (record { phase = phase; asked = waits; made = made }) []
     (moved_by (RefuseNext o) (record { phase = phase; asked = waits; made = made })).next
 unasked_keeps Idle [] made o = stays_so _ _ [] refl refl
@@ -259,7 +259,7 @@ told_same true (news.Match m) c = (refl, refl)
 told_same true (news.Release r) c = (refl, refl)
 told_same true (news.Letter l) c = (refl, refl)
 
-leaves_keeps : (phase : Phase) (waits : List Request) (made : Made)
+leaves_keeps : (phase : ClientPhase) (waits : List Request) (made : Made)
     → Keeps (record { phase = phase; asked = waits; made = made }) [] (moved_by Leave (record { phase = phase; asked = waits; made = made })).next
 leaves_keeps Idle waits made = none_waits _ _ [] refl refl
 leaves_keeps (Stepping n) waits made = none_waits _ _ [] refl refl

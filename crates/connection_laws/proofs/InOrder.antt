@@ -12,14 +12,14 @@ use Rattle.server_rules.specs.declared.own_answer.OwnAnswer.{OwnAnswer}
 use Rattle.server_rules.specs.declared.own_answer.OwnAnswer.TheVariants as own
 use Rattle.server_rules.specs.declared.phase.Errand.{Errand}
 use Rattle.server_rules.specs.declared.phase.Errand.TheVariants as errand
-use Rattle.server_rules.specs.declared.phase.Phase.{Phase}
-use Rattle.server_rules.specs.declared.phase.Phase.TheVariants.{Idle, Stepping, UnderWay, PutOff, LeftStepping, Left, Leaving, Cancelling, Gone}
+use Rattle.server_rules.specs.declared.phase.ClientPhase.{ClientPhase}
+use Rattle.server_rules.specs.declared.phase.ClientPhase.TheVariants.{Idle, Stepping, UnderWay, PutOff, LeftStepping, Left, Leaving, Cancelling, Gone}
 use Rattle.server_rules.specs.declared.requests.Request.{Request}
 use Rattle.server_rules.specs.declared.requests.Request.TheVariants.{Step, Status, Scan, Record, Follow, Clock, Refused}
-use Rattle.server_rules.specs.declared.standing.Admission.{Admission}
-use Rattle.server_rules.specs.declared.standing.Admission.TheVariants as admission
-use Rattle.server_rules.specs.declared.standing.StandingChange.{StandingChange}
-use Rattle.server_rules.specs.declared.standing.StandingChange.TheVariants as change
+use Rattle.server_rules.specs.declared.made_things.Admission.{Admission}
+use Rattle.server_rules.specs.declared.made_things.Admission.TheVariants as admission
+use Rattle.server_rules.specs.declared.made_things.MadeChange.{MadeChange}
+use Rattle.server_rules.specs.declared.made_things.MadeChange.TheVariants as change
 use Rattle.server_rules.specs.declared.status_lines.Subject.{Subject}
 use Rattle.server_rules.specs.declared.todo.Answer.{Answer}
 use Rattle.server_rules.specs.declared.todo.Answer.TheVariants as answer
@@ -30,7 +30,7 @@ use Rattle.server_rules.specs.Connection.{View, Moved, answers_by, hands_in, is_
 use Rattle.server_rules.specs.NewsTold.{is_for}
 use Rattle.server_rules.specs.ErrandEnds.{fewer}
 use Rattle.server_rules.specs.Begin.{begin_admitted, begin_next, begin_put_off, joins, replaces, step_limit, steps_in}
-use Rattle.server_rules.specs.Standing.{Made, admission_of, change_of}
+use Rattle.server_rules.specs.Made.{Made, admission_of, change_of}
 use Rattle.server_rules.specs.StatusAge.{is_recent}
 use Rattle.connection_laws.specs.History.{Done, Event, Ask, Begin, Answered, Recorded, RefuseErrand, RefuseNext, Told, Leave, History, happens, moved_by, opened, run, taken_by}
 use Rattle.connection_laws.specs.Laws.{AnsweredInOrder, Answers, AreAnswered, IsBegun, IsBegunOn, IsStep, Pending, answered_by, answers, posted_of}
@@ -66,7 +66,7 @@ data Turn (c : View) (taken : List Request) (m : Moved) : Type 0 where
 stays_turn : (c : View) → is_here c.phase ≡ true → Turn c [] (stays c)
 stays_turn c here = Here here (λ begun is. record { later = begun; answered = append-nil (begun ++ c.asked); is_begun = is })
 
-asks_turn : (phase : Phase) (asked coming : List Request) (made : Made) → is_here phase ≡ true
+asks_turn : (phase : ClientPhase) (asked coming : List Request) (made : Made) → is_here phase ≡ true
     → Turn (record { phase = phase; asked = asked; made = made }) (taken_by (Ask coming) (record { phase = phase; asked = asked; made = made }))
     (moved_by (Ask coming) (record { phase = phase; asked = asked; made = made }))
 asks_turn phase [] coming made here = rw here (Here here (λ begun is. record {
@@ -106,7 +106,7 @@ at_once r a rest made made' is = Here refl (λ begun none. record {
 })
 
 -- a request that is begun
-begins : (r : Request) (p : Phase) (t : Todo) (rest : List Request) (made made' : Made) → answered_by t ≡ [] → IsBegun p (r ∷ [])
+begins : (r : Request) (p : ClientPhase) (t : Todo) (rest : List Request) (made made' : Made) → answered_by t ≡ [] → IsBegun p (r ∷ [])
     → Turn (record { phase = Idle; asked = r ∷ rest; made = made }) [] (record { next = record { phase = p; asked = rest; made = made' }; todo = t })
 begins r p t rest made made' silent is = Here refl (λ begun none. record {
   later = r ∷ [];
@@ -117,7 +117,7 @@ begins r p t rest made made' silent is = Here refl (λ begun none. record {
 one_step : (act : Act Global) → All IsStep (Step act ∷ [])
 one_step act = All-cons IsStep (Step act) [] tt (search rules)
 
-steps_turn : (ch : StandingChange) (act : Act Global) (rest : List Request) (made : Made)
+steps_turn : (ch : MadeChange) (act : Act Global) (rest : List Request) (made : Made)
     → Turn (record { phase = Idle; asked = Step act ∷ rest; made = made }) [] (steps_in ch 0 act (record { phase = Idle; asked = rest; made = made }))
 steps_turn change.Other act rest made = begins (Step act) (Stepping 1) (todo.Submit act) rest made made refl (omega arith, refl, one_step act)
 steps_turn change.MakesWaiter act rest made = begins (Step act) _ (todo.Submit act) rest made made refl (act, refl)
@@ -165,7 +165,7 @@ grown begun act rest = append-nil (begun ++ Step act ∷ rest) ∙ sym (append_a
 all_steps : (begun : List Request) (act : Act Global) → All IsStep begun → All IsStep (begun ++ Step act ∷ [])
 all_steps begun act all = All-append IsStep begun (Step act ∷ []) all (one_step act)
 
-joins_turn : (ch : StandingChange) (n : ℕ) (act : Act Global) (rest : List Request) (made : Made)
+joins_turn : (ch : MadeChange) (n : ℕ) (act : Act Global) (rest : List Request) (made : Made)
     → Turn (record { phase = Stepping n; asked = Step act ∷ rest; made = made }) []
     (joins ch n act rest (record { phase = Stepping n; asked = Step act ∷ rest; made = made }))
 joins_turn change.Other n act rest made = Here refl (λ begun is. record {
@@ -275,7 +275,7 @@ away_turn c event here =
     let gone = away c event here in
     Away gone.gone (takes_nothing c event here) (no_answer (moved_by event c).todo gone.silent)
 
-turn_in : (phase : Phase) (asked : List Request) (made : Made) (event : Event)
+turn_in : (phase : ClientPhase) (asked : List Request) (made : Made) (event : Event)
     → Turn (record { phase = phase; asked = asked; made = made }) (taken_by event (record { phase = phase; asked = asked; made = made }))
     (moved_by event (record { phase = phase; asked = asked; made = made }))
 turn_in Idle asked made (Ask coming) = asks_turn Idle asked coming made refl

@@ -6,26 +6,26 @@ use Rattle.tree_core.specs.declared.reply.Reply.{Reply}
 use Rattle.server_rules.specs.declared.own_answer.OwnAnswer.{OwnAnswer}
 use Rattle.server_rules.specs.declared.phase.Errand.{Errand}
 use Rattle.server_rules.specs.declared.phase.Errand.TheVariants as errand
-use Rattle.server_rules.specs.declared.phase.Phase.{Phase}
-use Rattle.server_rules.specs.declared.phase.Phase.TheVariants.{Idle, Stepping, UnderWay, PutOff, LeftStepping, Left, Leaving, Cancelling, Gone}
+use Rattle.server_rules.specs.declared.phase.ClientPhase.{ClientPhase}
+use Rattle.server_rules.specs.declared.phase.ClientPhase.TheVariants.{Idle, Stepping, UnderWay, PutOff, LeftStepping, Left, Leaving, Cancelling, Gone}
 use Rattle.server_rules.specs.declared.requests.Request.{Request}
 use Rattle.server_rules.specs.declared.requests.Request.TheVariants.{Step, Status, Scan, Record, Follow, Clock, Refused}
-use Rattle.server_rules.specs.declared.standing.Admission.{Admission}
-use Rattle.server_rules.specs.declared.standing.Admission.TheVariants as admission
-use Rattle.server_rules.specs.declared.standing.StandingChange.{StandingChange}
-use Rattle.server_rules.specs.declared.standing.StandingChange.TheVariants as change
+use Rattle.server_rules.specs.declared.made_things.Admission.{Admission}
+use Rattle.server_rules.specs.declared.made_things.Admission.TheVariants as admission
+use Rattle.server_rules.specs.declared.made_things.MadeChange.{MadeChange}
+use Rattle.server_rules.specs.declared.made_things.MadeChange.TheVariants as change
 use Rattle.server_rules.specs.declared.todo.News.{News}
 use Rattle.server_rules.specs.declared.todo.Todo.TheVariants as todo
 use Rattle.server_rules.specs.Connection.{View, Moved, stays, takes_requests}
 use Rattle.server_rules.specs.NewsTold.{after_news, is_for}
 use Rattle.server_rules.specs.Begin.{begin_admitted, begin_next, begin_put_off, ends_by, joins, replaces, step_limit, steps_in}
-use Rattle.server_rules.specs.Standing.{Made, admission_of, change_of, next_ended, nothing_made}
+use Rattle.server_rules.specs.Made.{Made, admission_of, change_of, next_ended, nothing_made}
 use Rattle.server_rules.specs.StatusAge.{is_recent}
 use Rattle.connection_laws.specs.History.{Event, Ask, Begin, Answered, Recorded, RefuseErrand, RefuseNext, Told, Leave, History, happens, moved_by, opened, run}
 use Rattle.connection_laws.specs.Laws.{NothingIsLeft}
 
 -- whether it is gone
-abbrev is_gone : Phase → Bool
+abbrev is_gone : ClientPhase → Bool
 is_gone Gone = true
 is_gone phase = false
 
@@ -37,7 +37,7 @@ asked : (takes : Bool) (coming : List Request) (c : View) → is_gone c.phase �
 asked true coming c there = there
 asked false coming c there = there
 
-steps : (ch : StandingChange) (n : ℕ) (act : Act Global) (c : View) → IsThere (steps_in ch n act c)
+steps : (ch : MadeChange) (n : ℕ) (act : Act Global) (c : View) → IsThere (steps_in ch n act c)
 steps change.Other n act c = refl
 steps change.MakesWaiter n act c = refl
 steps change.MakesSubscription n act c = refl
@@ -72,7 +72,7 @@ begun_off : (act : Option (Act Global)) (c : View) → IsThere (begin_put_off ac
 begun_off (Some act) c = refl
 begun_off None c = refl
 
-joined : (ch : StandingChange) (n : ℕ) (act : Act Global) (rest : List Request) (c : View) → is_gone c.phase ≡ false → IsThere (joins ch n act rest c)
+joined : (ch : MadeChange) (n : ℕ) (act : Act Global) (rest : List Request) (c : View) → is_gone c.phase ≡ false → IsThere (joins ch n act rest c)
 joined change.Other n act rest c there = refl
 joined change.MakesWaiter n act rest c there = there
 joined change.MakesSubscription n act rest c there = there
@@ -91,7 +91,7 @@ beside true n (Follow services ∷ rest) c there = there
 beside true n (Clock ∷ rest) c there = there
 beside true n (Refused o ∷ rest) c there = there
 
-one_less : (few : Bool) (more less : Phase) → is_gone more ≡ false → is_gone less ≡ false → is_gone (if few then less else more) ≡ false
+one_less : (few : Bool) (more less : ClientPhase) → is_gone more ≡ false → is_gone less ≡ false → is_gone (if few then less else more) ≡ false
 one_less true more less here there = there
 one_less false more less here there = here
 
@@ -154,7 +154,7 @@ unasked [] made o = refl
 unasked (r ∷ rest) made o = refl
 
 -- while it isn't leaving it doesn't go
-there_in : (phase : Phase) (waits : List Request) (made : Made) (event : Event) → is_gone phase ≡ false → (phase ≡ Leaving → ⊥)
+there_in : (phase : ClientPhase) (waits : List Request) (made : Made) (event : Event) → is_gone phase ≡ false → (phase ≡ Leaving → ⊥)
     → IsThere (moved_by event (record { phase = phase; asked = waits; made = made }))
 there_in Idle waits made (Ask coming) here stays_here = asked (takes_requests (record { phase = Idle; asked = waits; made = made })) coming
     (record { phase = Idle; asked = waits; made = made }) refl
@@ -268,17 +268,17 @@ gone_bare waits made (RefuseNext o) is = is
 gone_bare waits made (Told told) is = is
 gone_bare waits made Leave is = is
 
-is_gone_of : (phase : Phase) → phase ≡ Gone → is_gone phase ≡ true
+is_gone_of : (phase : ClientPhase) → phase ≡ Gone → is_gone phase ≡ true
 is_gone_of phase is = rw is refl
 
-away : (phase : Phase) (waits : List Request) (made : Made) (event : Event) → is_gone phase ≡ false → (phase ≡ Leaving → ⊥)
+away : (phase : ClientPhase) (waits : List Request) (made : Made) (event : Event) → is_gone phase ≡ false → (phase ≡ Leaving → ⊥)
     → (moved_by event (record { phase = phase; asked = waits; made = made })).next.phase ≡ Gone
     → (moved_by event (record { phase = phase; asked = waits; made = made })).next.made ≡ nothing_made
 away phase waits made event here stays_here gone =
     let there = there_in phase waits made event here stays_here in
     let went = is_gone_of _ gone in search rules
 
-bare_in : (phase : Phase) (waits : List Request) (made : Made) (event : Event) → (phase ≡ Gone → made ≡ nothing_made)
+bare_in : (phase : ClientPhase) (waits : List Request) (made : Made) (event : Event) → (phase ≡ Gone → made ≡ nothing_made)
     → (moved_by event (record { phase = phase; asked = waits; made = made })).next.phase ≡ Gone
     → (moved_by event (record { phase = phase; asked = waits; made = made })).next.made ≡ nothing_made
 bare_in Idle waits made event bare gone = away Idle waits made event refl (λ is. search rules) gone

@@ -2,12 +2,12 @@
 use Rattle.std.proofs.Common.{refl, ap, ◌∙◌, ◌≡◌, ◌++◌, [], ◌∷◌, List, false}
 use Rattle.std.proofs.lemmas.List.{append-nil}
 use Rattle.std.proofs.lemmas.Grind.{flat_map-append}
-use Rattle.server_rules.specs.declared.phase.Phase.{Phase}
-use Rattle.server_rules.specs.declared.phase.Phase.TheVariants.{Idle, Stepping, UnderWay, PutOff, LeftStepping, Left, Leaving, Cancelling, Gone}
+use Rattle.server_rules.specs.declared.phase.ClientPhase.{ClientPhase}
+use Rattle.server_rules.specs.declared.phase.ClientPhase.TheVariants.{Idle, Stepping, UnderWay, PutOff, LeftStepping, Left, Leaving, Cancelling, Gone}
 use Rattle.server_rules.specs.declared.requests.Request.{Request}
 use Rattle.server_rules.specs.declared.todo.Todo.{Todo}
 use Rattle.server_rules.specs.Connection.{View, is_here}
-use Rattle.server_rules.specs.Standing.{Made}
+use Rattle.server_rules.specs.Made.{Made}
 use Rattle.connection_laws.specs.History.{Done, Event, Leave, History, happens, moved_by, opened, run}
 use Rattle.connection_laws.specs.Laws.{SilentOnceLeft, posted_of, posts}
 use Rattle.connection_laws.proofs.Away.{IsAway, away}
@@ -28,7 +28,7 @@ silent (event ∷ events) h gone =
     let stays = away h.now event gone in
     silent events (happens h event) stays.gone ∙ same_posts h.done _ stays.silent
 
-leaves_in : (phase : Phase) (asked : List Request) (made : Made)
+leaves_in : (phase : ClientPhase) (asked : List Request) (made : Made)
     → IsAway (moved_by Leave (record { phase = phase; asked = asked; made = made }))
 leaves_in Idle asked made = record { gone = refl; silent = refl }
 leaves_in (Stepping n) asked made = record { gone = refl; silent = refl }

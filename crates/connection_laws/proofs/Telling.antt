@@ -9,14 +9,14 @@ use Rattle.tree_core.specs.declared.reply.Reply.TheVariants as reply
 use Rattle.server_rules.specs.declared.own_answer.OwnAnswer.{OwnAnswer}
 use Rattle.server_rules.specs.declared.phase.Errand.{Errand}
 use Rattle.server_rules.specs.declared.phase.Errand.TheVariants as errand
-use Rattle.server_rules.specs.declared.phase.Phase.{Phase}
-use Rattle.server_rules.specs.declared.phase.Phase.TheVariants.{Idle, Stepping, UnderWay, PutOff, LeftStepping, Left, Leaving, Cancelling, Gone}
+use Rattle.server_rules.specs.declared.phase.ClientPhase.{ClientPhase}
+use Rattle.server_rules.specs.declared.phase.ClientPhase.TheVariants.{Idle, Stepping, UnderWay, PutOff, LeftStepping, Left, Leaving, Cancelling, Gone}
 use Rattle.server_rules.specs.declared.requests.Request.{Request}
 use Rattle.server_rules.specs.declared.requests.Request.TheVariants.{Step, Status, Scan, Record, Follow, Clock, Refused}
-use Rattle.server_rules.specs.declared.standing.Admission.{Admission}
-use Rattle.server_rules.specs.declared.standing.Admission.TheVariants as admission
-use Rattle.server_rules.specs.declared.standing.StandingChange.{StandingChange}
-use Rattle.server_rules.specs.declared.standing.StandingChange.TheVariants as change
+use Rattle.server_rules.specs.declared.made_things.Admission.{Admission}
+use Rattle.server_rules.specs.declared.made_things.Admission.TheVariants as admission
+use Rattle.server_rules.specs.declared.made_things.MadeChange.{MadeChange}
+use Rattle.server_rules.specs.declared.made_things.MadeChange.TheVariants as change
 use Rattle.server_rules.specs.declared.todo.News.{News}
 use Rattle.server_rules.specs.declared.todo.News.TheVariants as news
 use Rattle.server_rules.specs.declared.todo.Todo.{Todo}
@@ -24,7 +24,7 @@ use Rattle.server_rules.specs.declared.todo.Todo.TheVariants as todo
 use Rattle.server_rules.specs.Connection.{View, Moved, is_here, stays, takes_requests}
 use Rattle.server_rules.specs.NewsTold.{after_news, has_made, is_for}
 use Rattle.server_rules.specs.Begin.{begin_admitted, begin_next, begin_put_off, ends_by, joins, replaces, step_limit, steps_in}
-use Rattle.server_rules.specs.Standing.{Made, admission_of, after_reply, change_of, is_among, next_ended, without}
+use Rattle.server_rules.specs.Made.{Made, admission_of, after_reply, change_of, is_among, next_ended, without}
 use Rattle.server_rules.specs.StatusAge.{is_recent}
 use Rattle.connection_laws.specs.History.{Done, Event, Ask, Begin, Answered, Recorded, RefuseErrand, RefuseNext, Told, Leave, History, happens, made_by_reply, made_in, moved_by, opened, run}
 use Rattle.connection_laws.specs.Laws.{ToldItsOwn, asks_for, was_made}
@@ -69,7 +69,7 @@ fewer_released made new released act = record {
 equal : (xs ys : List ℕ) → xs ≡ ys → AreAmong xs ys
 equal xs ys are = λ id is. subst (λ (zs : List ℕ). is_among id zs ≡ true) are is
 
-replied : (ch : StandingChange) (r : Reply Global) (made : Made) → Grows made (made_by_reply ch r) (after_reply ch r made)
+replied : (ch : MadeChange) (r : Reply Global) (made : Made) → Grows made (made_by_reply ch r) (after_reply ch r made)
 replied change.Other r made = same made _
 replied change.MakesWaiter reply.Done made = same made _
 replied change.MakesWaiter (reply.Refused refusal) made = same made _
@@ -114,7 +114,7 @@ asked : (takes : Bool) (coming : List Request) (c : View) (new : Made) → Grows
 asked true coming c new = same c.made new
 asked false coming c new = same c.made new
 
-steps : (ch : StandingChange) (n : ℕ) (act : Act Global) (c : View) (new : Made) → Grows c.made new (steps_in ch n act c).next.made
+steps : (ch : MadeChange) (n : ℕ) (act : Act Global) (c : View) (new : Made) → Grows c.made new (steps_in ch n act c).next.made
 steps change.Other n act c new = same c.made new
 steps change.MakesWaiter n act c new = same c.made new
 steps change.MakesSubscription n act c new = same c.made new
@@ -153,7 +153,7 @@ begun_off : (act : Option (Act Global)) (c : View) (new : Made) → Grows c.made
 begun_off (Some act) c new = record { waiters = before c.made.waiters new.waiters; subscriptions = before c.made.subscriptions new.subscriptions }
 begun_off None c new = same c.made new
 
-joined : (ch : StandingChange) (n : ℕ) (act : Act Global) (rest : List Request) (c : View) (new : Made)
+joined : (ch : MadeChange) (n : ℕ) (act : Act Global) (rest : List Request) (c : View) (new : Made)
     → Grows c.made new (joins ch n act rest c).next.made
 joined change.Other n act rest c new = same c.made new
 joined change.MakesWaiter n act rest c new = same c.made new
@@ -208,7 +208,7 @@ newsed true (news.Release r) c new = record {
   subscriptions = before c.made.subscriptions new.subscriptions;
 }
 
-unscanned : (phase : Phase) (o : OwnAnswer) (asked : List Request) (made : Made)
+unscanned : (phase : ClientPhase) (o : OwnAnswer) (asked : List Request) (made : Made)
     → Grows made (made_in phase (RefuseErrand o)) (moved_by (RefuseErrand o) (record { phase = phase; asked = asked; made = made })).next.made
 unscanned Idle o asked made = same made _
 unscanned (Stepping n) o asked made = same made _
@@ -228,7 +228,7 @@ unscanned Leaving o asked made = same made _
 unscanned Cancelling o asked made = same made _
 unscanned Gone o asked made = same made _
 
-recorded : (phase : Phase) (count : ℕ) (asked : List Request) (made : Made)
+recorded : (phase : ClientPhase) (count : ℕ) (asked : List Request) (made : Made)
     → Grows made (made_in phase (Recorded count)) (moved_by (Recorded count) (record { phase = phase; asked = asked; made = made })).next.made
 recorded Idle count asked made = same made _
 recorded (Stepping n) count asked made = same made _
@@ -269,7 +269,7 @@ left errand.Scan r asked made = same made _
 left errand.Record r asked made = same made _
 left errand.Replacement r asked made = same made _
 
-grows_in : (phase : Phase) (asked : List Request) (made : Made) (event : Event)
+grows_in : (phase : ClientPhase) (asked : List Request) (made : Made) (event : Event)
     → Grows made (made_in phase event) (moved_by event (record { phase = phase; asked = asked; made = made })).next.made
 grows_in Idle waits made (Ask coming) = asked (takes_requests (record { phase = Idle; asked = waits; made = made })) coming
     (record { phase = Idle; asked = waits; made = made }) _

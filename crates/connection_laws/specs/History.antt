@@ -6,18 +6,18 @@ use Rattle.tree_core.specs.declared.reply.Reply.TheVariants as reply
 use Rattle.server_rules.specs.declared.own_answer.OwnAnswer.{OwnAnswer}
 use Rattle.server_rules.specs.declared.phase.Errand.{Errand}
 use Rattle.server_rules.specs.declared.phase.Errand.TheVariants as errand
-use Rattle.server_rules.specs.declared.phase.Phase.{Phase}
-use Rattle.server_rules.specs.declared.phase.Phase.TheVariants.{UnderWay, Left}
+use Rattle.server_rules.specs.declared.phase.ClientPhase.{ClientPhase}
+use Rattle.server_rules.specs.declared.phase.ClientPhase.TheVariants.{UnderWay, Left}
 use Rattle.server_rules.specs.declared.requests.Request.{Request}
-use Rattle.server_rules.specs.declared.standing.StandingChange.{StandingChange}
-use Rattle.server_rules.specs.declared.standing.StandingChange.TheVariants as change
+use Rattle.server_rules.specs.declared.made_things.MadeChange.{MadeChange}
+use Rattle.server_rules.specs.declared.made_things.MadeChange.TheVariants as change
 use Rattle.server_rules.specs.declared.todo.News.{News}
 use Rattle.server_rules.specs.declared.todo.Todo.{Todo}
 use Rattle.server_rules.specs.Connection.{View, Moved, new_view, stays, takes_requests, ask_next, leave_next}
 use Rattle.server_rules.specs.NewsTold.{told_move}
 use Rattle.server_rules.specs.ErrandEnds.{answered_move, recorded_move, refuse_errand_move, refuse_next_move}
 use Rattle.server_rules.specs.Begin.{begin_move}
-use Rattle.server_rules.specs.Standing.{Made, nothing_made}
+use Rattle.server_rules.specs.Made.{Made, nothing_made}
 
 -- what happens to a connection; moments are in milliseconds
 pub data Event : Type 0 where
@@ -47,7 +47,7 @@ taken_by (Ask coming) c = if takes_requests c then coming else []
 taken_by event c = []
 
 -- the serial of what a step made, as the reply to it says
-abbrev pub made_by_reply : StandingChange → Reply Global → Made
+abbrev pub made_by_reply : MadeChange → Reply Global → Made
 made_by_reply change.MakesWaiter (reply.Waiter id) = record nothing_made { waiters = id ∷ [] }
 made_by_reply change.MakesSubscription (reply.Subscription id) = record nothing_made { subscriptions = id ∷ [] }
 made_by_reply ch r = nothing_made
@@ -56,7 +56,7 @@ abbrev pub made_on : Errand → Reply Global → Made
 made_on (errand.Step ch) r = made_by_reply ch r
 made_on e r = nothing_made
 
-abbrev pub made_in : Phase → Event → Made
+abbrev pub made_in : ClientPhase → Event → Made
 made_in (UnderWay e) (Answered r) = made_on e r
 made_in (Left e) (Answered r) = made_on e r
 made_in phase event = nothing_made

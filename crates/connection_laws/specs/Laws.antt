@@ -6,8 +6,8 @@ use Rattle.tree_core.specs.declared.input.Act.{Act}
 use Rattle.tree_core.specs.declared.input.Act.TheVariants.{Cancel, Unsubscribe}
 use Rattle.server_rules.specs.declared.phase.Errand.{Errand}
 use Rattle.server_rules.specs.declared.phase.Errand.TheVariants as errand
-use Rattle.server_rules.specs.declared.phase.Phase.{Phase}
-use Rattle.server_rules.specs.declared.phase.Phase.TheVariants.{Idle, Stepping, UnderWay, PutOff, Leaving, Cancelling, Gone}
+use Rattle.server_rules.specs.declared.phase.ClientPhase.{ClientPhase}
+use Rattle.server_rules.specs.declared.phase.ClientPhase.TheVariants.{Idle, Stepping, UnderWay, PutOff, Leaving, Cancelling, Gone}
 use Rattle.server_rules.specs.declared.requests.Request.{Request}
 use Rattle.server_rules.specs.declared.requests.Request.TheVariants.{Step, Status, Scan, Record, Follow, Clock}
 use Rattle.server_rules.specs.declared.todo.Answer.{Answer}
@@ -17,7 +17,7 @@ use Rattle.server_rules.specs.declared.todo.News.TheVariants as news
 use Rattle.server_rules.specs.declared.todo.Todo.{Todo}
 use Rattle.server_rules.specs.declared.todo.Todo.TheVariants.{Give, Submit, Tell}
 use Rattle.server_rules.specs.Connection.{is_here}
-use Rattle.server_rules.specs.Standing.{Made, is_among, is_followed, nothing_made}
+use Rattle.server_rules.specs.Made.{Made, is_among, is_followed, nothing_made}
 use Rattle.connection_laws.specs.History.{Done, Event, History, Leave, Told, opened, run}
 
 -- what was answered
@@ -58,7 +58,7 @@ IsBegunOn errand.Scan begun = begun ≡ Scan ∷ []
 IsBegunOn errand.Record begun = begun ≡ Record ∷ []
 IsBegunOn errand.Replacement begun = (act : Act Global) × (begun ≡ Step act ∷ [])
 
-abbrev pub IsBegun : Phase → List Request → Type 0
+abbrev pub IsBegun : ClientPhase → List Request → Type 0
 IsBegun Idle begun = begun ≡ []
 IsBegun (Stepping n) begun = (1 ≤ n) × (length begun ≡ n) × All IsStep begun
 IsBegun (UnderWay e) begun = IsBegunOn e begun
@@ -121,7 +121,7 @@ abbrev pub ends_of : Made → List (Act Global)
 ends_of made = map Cancel (made.released ++ made.waiters) ++ map Unsubscribe made.subscriptions
 
 -- the client has left, and no request of it is under way
-abbrev pub is_ending : Phase → Bool
+abbrev pub is_ending : ClientPhase → Bool
 is_ending Leaving = true
 is_ending Cancelling = true
 is_ending Gone = true

@@ -4,8 +4,8 @@ ghost use Rattle.control_letters.specs.ControlLetter.{byte_of, letter_of_byte, s
 
 use arrayvec::ArrayVec;
 
-/// A command of a user to the supervisor of a service, each of one letter. Page `s6-svc`; the letters that stand for a signal do
-/// something only while `run` is there.
+/// A command of a user to the supervisor of a service, each of one letter. Page `s6-svc`; the
+/// letters that stand for a signal do something only while `run` is there.
 #[derive(Clone, Copy, Debug, Default, PartialEq, Eq)]
 pub enum ControlLetter {
     /// `a`: SIGALRM.
@@ -45,11 +45,12 @@ pub enum ControlLetter {
     Exit,
 }
 
-/// The letters of one call, in the order written: at most 63. Page `s6-svc`; the number is chosen here.
+/// The letters of one call, in the order written: at most 63. Page `s6-svc`; the number is chosen
+/// here.
 pub type Letters = ArrayVec<ControlLetter, 63>;
 
 /// All control letters.
-const ALL: [ControlLetter; 17] = [
+const ALL_LETTERS: [ControlLetter; 17] = [
     ControlLetter::Alarm,
     ControlLetter::Abort,
     ControlLetter::Quit,
@@ -70,12 +71,13 @@ const ALL: [ControlLetter; 17] = [
 ];
 
 impl ControlLetter {
-    /// The letter that this byte stands for, looked for among all 17; None where it stands for none.
+    /// The letter that this byte stands for, looked for among all 17; None where it stands for
+    /// none.
     #[tactic(auto, unfolding(crate::specs::ControlLetter::letter_of_byte))]
     pub fn of_byte(byte: u8) -> Option<ControlLetter>
         ensures { result ≡ letter_of_byte byte }
     {
-        among(ALL.as_slice(), byte)
+        among(ALL_LETTERS.as_slice(), byte)
     }
 
     /// The byte that stands for it.
@@ -103,7 +105,8 @@ impl ControlLetter {
         }
     }
 
-    /// The number of the signal that it stands for, on Linux for x86-64; None for `u`, `d`, `O`, `r` and `x`.
+    /// The number of the signal that it stands for, on Linux for x86-64; None for `u`, `d`, `O`,
+    /// `r` and `x`.
     pub fn signal(self) -> Option<u8>
         ensures { result ≡ signal_of self }
     {

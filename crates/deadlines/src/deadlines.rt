@@ -1,5 +1,6 @@
-//! The timers that are set, at most one for each service, and which of them are due. They are kept twice: in `timers` in the order of the
-//! serials of their services, and in `queue` in the order of their moments.
+//! The timers that are set, at most one for each service, and which of them are due. They are kept
+//! twice: in `timers` in the order of the serials of their services, and in `queue` in the order of
+//! their moments.
 ghost use Rattle.std.specs.Prelude.{◌≡◌, ◌+◌, ◌<◌, ◌≤◌, [], length, IsOk, IfOk, OnOk, OnErr, IfSome, IsSomeAnd, nat_lt, take, slice_get, true, false};
 ghost use Rattle.std.specs.List.{list_all};
 ghost use Rattle.deadlines.specs.Queue.{HaveSameTimers, in_moment_order};
@@ -11,8 +12,9 @@ use s6_events::{At, NoMemory, Sid};
 use std::alloc::Allocator;
 use std::marker::Model;
 
-/// The timers that are set, at most one for each service. They are kept twice: in `timers` in rising serial, to find that of a service,
-/// and in `queue` in the order of their moments, to find those that are due.
+/// The timers that are set, at most one for each service. They are kept twice: in `timers` in
+/// rising serial, to find that of a service, and in `queue` in the order of their moments, to find
+/// those that are due.
 #[derive(Drop)]
 pub struct Deadlines<A: Allocator> {
     timers: Vec<Timer, A>,
@@ -81,8 +83,8 @@ fn comes_last(timers: &[Timer], sid: Sid) -> bool
     is_below(&last, sid)
 }
 
-// The first place of a timer whose serial is not below this one, or the end. Services that were started together die and are started
-// again in their order, so that both ends are looked at first.
+// The first place of a timer whose serial is not below this one, or the end. Services that were
+// started together die and are started again in their order, so that both ends are looked at first.
 fn place_of(timers: &[Timer], sid: Sid) -> usize
     requires { rises timers.now ≡ true }
     ensures bound { result ≤ length timers.now }
@@ -116,8 +118,9 @@ fn is_at(timers: &[Timer], place: usize, sid: Sid) -> bool
     timers.get(place).is_some_and(|timer| timer.sid == sid)
 }
 
-// Adds the services whose timers are set to a moment at most `now`, in rising serial. `timers` is in the order of serials; `queue` has the same
-// timers in the order of moments, so that its first one tells whether any is due.
+// Adds the services whose timers are set to a moment at most `now`, in rising serial. `timers` is
+// in the order of serials; `queue` has the same timers in the order of moments, so that its first
+// one tells whether any is due.
 fn add_due<B: Allocator>(
     timers: &[Timer],
     queue: &[Timer],
@@ -144,23 +147,22 @@ fn add_due<B: Allocator>(
 }
 
 impl<A: Allocator + Copy> Deadlines<A> {
-    /// Deadlines with no timer set. They keep the allocator. A timer that is set goes into both `timers` (in the order of serials) and `queue` (in
-    /// the order of moments).
+    /// Deadlines with no timer set. They keep the allocator. A timer that is set goes into both
+    /// `timers` (in the order of serials) and `queue` (in the order of moments).
     pub fn new(alloc: A) -> Deadlines<A>
         ensures { result.timers ≡ [] }
     {
         Deadlines {
             timers: Vec::new(alloc),
             queue: Vec::new(alloc),
-            // The memory of the last committed plan, which the next one uses: none yet.
             spare: Vec::new(alloc),
-            // The services that the last search found due: none yet.
             found: Vec::new(alloc),
         }
     }
 
-    /// Sets the timer of a service to a moment, in place of the one that it had. It always succeeds where there is still room. `NoMemory` where
-    /// memory is refused: nothing has changed then, and a plan still has its room. Both lists of the timers, `timers` and `queue`, get room for one
+    /// Sets the timer of a service to a moment, in place of the one that it had. It always succeeds
+    /// where there is still room. `NoMemory` where memory is refused: nothing has changed then, and
+    /// a plan still has its room. Both lists of the timers, `timers` and `queue`, get room for one
     /// more first.
     pub fn set(&mut self, sid: Sid, at: At) -> Result<(), NoMemory>
         ensures ok { OnOk result (self.new.timers ≡ with_timer sid at self.old.timers) }
@@ -174,7 +176,8 @@ impl<A: Allocator + Copy> Deadlines<A> {
         Ok(())
     }
 
-    // Sets the timer of a service, for which there is room in both lists: `timers`, in the order of serials, and `queue`, in the order of moments.
+    // Sets the timer of a service, for which there is room in both lists: `timers`, in the order of
+    // serials, and `queue`, in the order of moments.
     fn put(&mut self, sid: Sid, at: At)
         requires { 0 < self.old.spare_capacity }
         ensures timers { self.new.timers ≡ with_timer sid at self.old.timers }
@@ -194,7 +197,8 @@ impl<A: Allocator + Copy> Deadlines<A> {
         }
     }
 
-    /// Clears the timer of a service, where it was set: it is taken out of both lists, `timers` and `queue`.
+    /// Clears the timer of a service, where it was set: it is taken out of both lists, `timers` and
+    /// `queue`.
     pub fn clear(&mut self, sid: Sid)
         ensures timers { self.new.timers ≡ without_timer sid self.old.timers }
         ensures room { self.old.spare_capacity ≤ self.new.spare_capacity }
@@ -206,8 +210,9 @@ impl<A: Allocator + Copy> Deadlines<A> {
         }
     }
 
-    /// The services whose timers are set to a moment at most `now`, in rising serial. Where none is due, only the timer with the least
-    /// moment is looked at, and no memory is asked for. `NoMemory` where memory is refused.
+    /// The services whose timers are set to a moment at most `now`, in rising serial. Where none is
+    /// due, only the timer with the least moment is looked at, and no memory is asked for.
+    /// `NoMemory` where memory is refused.
     pub fn due<B: Allocator + Copy>(&self, alloc: B, now: At) -> Result<Vec<Sid, B>, NoMemory>
         ensures due { IfOk result (λ sids. sids.items ≡ due_by now self.now.timers) }
         ensures rising { IfOk result (λ sids. is_rising sids.items ≡ true) }
@@ -218,8 +223,9 @@ impl<A: Allocator + Copy> Deadlines<A> {
         Ok(sids)
     }
 
-    /// Finds the services that `due` gives, and keeps them for `found`: their list uses the memory of the last search. `NoMemory` where
-    /// memory is refused, and nothing is said of `found` then; never where none is due.
+    /// Finds the services that `due` gives, and keeps them for `found`: their list uses the memory
+    /// of the last search. `NoMemory` where memory is refused, and nothing is said of `found` then;
+    /// never where none is due.
     pub fn find_due(&mut self, now: At) -> Result<(), NoMemory>
         ensures due { OnOk result (self.new.found ≡ due_by now self.old.timers) }
         ensures rising { OnOk result (is_rising self.new.found ≡ true) }
@@ -238,9 +244,9 @@ impl<A: Allocator + Copy> Deadlines<A> {
         self.found.as_slice()
     }
 
-    /// Makes room for these changes, and copies them into a plan: no timer is changed yet. An earlier plan keeps its room, even where this
-    /// call is refused.
-    /// `NoMemory` where memory is refused; never where there is nothing to change.
+    /// Makes room for these changes, and copies them into a plan: no timer is changed yet. An
+    /// earlier plan keeps its room, even where this call is refused. `NoMemory` where memory is
+    /// refused; never where there is nothing to change.
     #[inline(always)]
     pub fn prepare(&mut self, changes: &[TimerChange]) -> Result<DeadlinesPlan<A>, NoMemory>
         ensures ok { IfOk result (λ plan. plan ≡ changes.now) }
@@ -260,7 +266,8 @@ impl<A: Allocator + Copy> Deadlines<A> {
         Ok(DeadlinesPlan { changes: planned })
     }
 
-    /// Makes the changes of a plan. It has to be a plan of these deadlines, and nothing may have changed since it was made.
+    /// Makes the changes of a plan. It has to be a plan of these deadlines, and nothing may have
+    /// changed since it was made.
     pub fn commit(&mut self, plan: DeadlinesPlan<A>)
         requires { length plan ≤ self.old.spare_capacity }
         ensures { self.new.timers ≡ with_timer_changes plan self.old.timers }

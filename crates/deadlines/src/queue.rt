@@ -1,4 +1,5 @@
-//! Timers in the order of their moments; those of one moment in the order of the serials of their services.
+//! Timers in the order of their moments; those of one moment in the order of the serials of their
+//! services.
 ghost use Rattle.std.specs.Prelude.{◌≡◌, ◌+◌, ◌<◌, ◌≤◌, ℕ, [], length, not, IfSome, IsSomeAnd, take, slice_get, true, false, sum_by, vec_len, vec_capacity};
 ghost use Rattle.std.specs.List.{list_all};
 ghost use Rattle.deadlines.specs.Queue.{is_before, in_moment_order, is_this};
@@ -9,7 +10,8 @@ use crate::timer::Timer;
 use s6_events::At;
 use std::alloc::Allocator;
 
-// Whether a timer goes off before another one: at an earlier moment, or at the same one with a lower serial of its service (`sid`).
+// Whether a timer goes off before another one: at an earlier moment, or at the same one with a
+// lower serial of its service (`sid`).
 fn is_before(timer: &Timer, other: &Timer) -> bool
     ensures { result ≡ is_before timer.now other.now }
 {
@@ -45,8 +47,8 @@ fn comes_last(queue: &[Timer], timer: &Timer) -> bool
     is_before(&last, timer)
 }
 
-// The first place of a timer that doesn't go off before this one, or the end. Most timers are taken from the front and put at the end, so
-// that both are looked at first.
+// The first place of a timer that doesn't go off before this one, or the end. Most timers are taken
+// from the front and put at the end, so that both are looked at first.
 fn place_in(queue: &[Timer], timer: &Timer) -> usize
     requires { in_moment_order queue.now ≡ true }
     ensures bound { result ≤ length queue.now }

@@ -45,7 +45,8 @@ impl Model for DeathList {
     ghost view = { λ l. l.items.items };
 }
 
-// Whether an item names the exit: a code or a range names programs that ended by themselves with such a code, a signal those that it killed.
+// Whether an item names the exit: a code or a range names programs that ended by themselves with
+// such a code, a signal those that it killed.
 fn names_exit(item: &DeathItem, exit: Exit) -> bool
     ensures { result ≡ item_names item.now exit }
 {
@@ -75,7 +76,8 @@ fn code_or_signal(word: &[u8]) -> Option<DeathItem>
     }
 }
 
-// The range that two words with a dash between them spell; None where one is no exit code, or the first is above the second.
+// The range that two words with a dash between them spell; None where one is no exit code, or the
+// first is above the second.
 fn range_of(low: &[u8], high: &[u8]) -> Option<DeathItem>
     ensures { result ≡ spelled_range (number_up_to 255 low.now) (number_up_to 255 high.now) }
 {
@@ -96,7 +98,8 @@ fn dash_in(word: &[u8]) -> Option<usize>
     word.iter().position(|byte| *byte == b'-')
 }
 
-// The item that a word spells: a range where it has a dash, as `1-2`, else an exit code or a signal. None where it spells none of these.
+// The item that a word spells: a range where it has a dash, as `1-2`, else an exit code or a
+// signal. None where it spells none of these.
 fn item_of(word: &[u8]) -> Option<DeathItem>
     ensures { result ≡ spelled_item word.now }
 {
@@ -114,7 +117,8 @@ fn words_of<A: Allocator + Copy>(alloc: A, text: &[u8]) -> Result<Vec<&[u8], A>,
     text.split(|byte| *byte == b',').collect(alloc)
 }
 
-// The list that these words spell, an item each; None where one spells no item, or there are more words than the 32 items that a list may have.
+// The list that these words spell, an item each; None where one spells no item, or there are more
+// words than the 32 items that a list may have.
 fn list_in(words: &[&[u8]]) -> Option<DeathList>
     ensures { result ≡ list_of (map (λ w. w.now) words.now) }
 {
@@ -129,9 +133,10 @@ fn list_in(words: &[&[u8]]) -> Option<DeathList>
 }
 
 impl DeathList {
-    /// The list that a text spells: 1 to 32 items, with one comma between two. An item is a number from 0 to 255, as `7`; two such
-    /// numbers with a dash between them, the second not below the first, as `1-2`; or the name of a signal in capitals, as `SIGTERM` or
-    /// `TERM`. None for any other text. `NoMemory` where memory is refused.
+    /// The list that a text spells: 1 to 32 items, with one comma between two. An item is a number
+    /// from 0 to 255, as `7`; two such numbers with a dash between them, the second not below the
+    /// first, as `1-2`; or the name of a signal in capitals, as `SIGTERM` or `TERM`. None for any
+    /// other text. `NoMemory` where memory is refused.
     pub fn parse<A: Allocator + Copy>(alloc: A, text: &[u8]) -> Result<Option<DeathList>, NoMemory>
         ensures { IfOk result (λ list. list ≡ death_list text.now) }
     {

@@ -1,5 +1,5 @@
-//! The last deaths of a service, and whether a list names the exits of enough of them. Pages `servicedir`, `max-death-tally`, and
-//! `s6-permafailon`.
+//! The last deaths of a service, and whether a list names the exits of enough of them. Pages
+//! `servicedir`, `max-death-tally`, and `s6-permafailon`.
 #![tactic(auto)]
 
 mod exit_list;

@@ -29,8 +29,9 @@ fn count_of(deaths: &[(At, Exit)], now: At, seconds: u32, list: &DeathList) -> u
     count
 }
 
-/// Whether there is a permanent failure: at least `count` deaths of the tally are at most `seconds` seconds ago, and the list names
-/// their exits. A count of 0 is always met. Page `s6-permafailon`; what a count of 0 means is this project's own rule.
+/// Whether there is a permanent failure: at least `count` deaths of the tally are at most `seconds`
+/// seconds ago, and the list names their exits. A count of 0 is always met. Page `s6-permafailon`;
+/// what a count of 0 means is this project's own rule.
 pub fn permafails<A: Allocator + Copy>(
     tally: &Tally<A>,
     now: At,

@@ -8,8 +8,9 @@ use s6_events::{At, Exit, NoMemory};
 use std::alloc::Allocator;
 use std::marker::Model;
 
-/// The last deaths of a service, each with its moment, oldest first. They lie in a ring with a place for each death that it may keep;
-/// there is no ring where it keeps none. Page `servicedir`, `max-death-tally`.
+/// The last deaths of a service, each with its moment, oldest first. They lie in a ring with a
+/// place for each death that it may keep; there is no ring where it keeps none. Page `servicedir`,
+/// `max-death-tally`.
 #[derive(Drop)]
 pub struct Tally<A: Allocator> {
     ring: Option<HeapCircularBuffer<(At, Exit), A>>,
@@ -30,8 +31,9 @@ impl<A: Allocator> Model for Tally<A> {
 }
 
 impl<A: Allocator + Copy> Tally<A> {
-    /// An empty tally that keeps at most `most` deaths; 0 keeps none. It takes the memory for all of them. `NoMemory` where that is refused. The
-    /// deaths will lie in a ring buffer (`ring`) of that many places; there is none where `most` is 0.
+    /// An empty tally that keeps at most `most` deaths; 0 keeps none. It takes the memory for all
+    /// of them. `NoMemory` where that is refused. The deaths will lie in a ring buffer (`ring`) of
+    /// that many places; there is none where `most` is 0.
     pub fn new(alloc: A, most: u16) -> Result<Tally<A>, NoMemory>
         ensures { IfOk result (λ tally. tally ≡ new_tally most) }
     {
@@ -43,7 +45,8 @@ impl<A: Allocator + Copy> Tally<A> {
         Ok(Tally { ring, most })
     }
 
-    /// Adds a death. Where the tally is full, the oldest one is forgotten. A tally that keeps none stays empty.
+    /// Adds a death. Where the tally is full, the oldest one is forgotten. A tally that keeps none
+    /// stays empty.
     pub fn add(&mut self, at: At, exit: Exit)
         ensures kept { self.new ≡ with_death self.old (at, exit) }
         ensures last { (all : List (ℕ × Exit)) → Tallies self.old all
@@ -62,8 +65,8 @@ impl<A: Allocator + Copy> Tally<A> {
         self.most
     }
 
-    /// The deaths that it has, oldest first, in the two parts in which they lie: those up to the end of the ring, and those that wrapped
-    /// round.
+    /// The deaths that it has, oldest first, in the two parts in which they lie: those up to the
+    /// end of the ring, and those that wrapped round.
     pub fn as_slices(&self) -> (&[(At, Exit)], &[(At, Exit)])
         ensures { result.0.now ++ result.1.now ≡ self.now.kept }
     {

@@ -1,4 +1,5 @@
-//! Lines for standard error. A thread of their own writes them, so a slow reader of standard error keeps nobody else waiting.
+//! Lines for standard error. A thread of their own writes them, so a slow reader of standard error
+//! keeps nobody else waiting.
 #![tactic(auto)]
 
 mod note_list;

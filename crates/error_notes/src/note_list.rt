@@ -1,4 +1,5 @@
-//! The notes, whole lines for standard error, that wait to be written, up to a limit of bytes, and how many were lost.
+//! The notes, whole lines for standard error, that wait to be written, up to a limit of bytes, and
+//! how many were lost.
 ghost use Rattle.std.specs.Prelude.{◌≡◌, ◌++◌, ◌+◌, ◌<◌, ◌≤◌, [], Err, length, IsTrue, ◌↔◌, OnOk, OnErr, true, false};
 ghost use Rattle.error_notes.specs.Notes.{notes_limit, one_more};
 ghost use Rattle.error_notes.specs.declared.note_list.LostNote.TheVariants.{Full, Closed};
@@ -33,8 +34,8 @@ impl From<AllocError> for LostNote {
     }
 }
 
-/// The notes that wait to be written, at most 65,536 bytes, and how many were lost since the last were taken. A note is one or more whole
-/// lines. It waits whole, or is lost and counted.
+/// The notes that wait to be written, at most 65,536 bytes, and how many were lost since the last
+/// were taken. A note is one or more whole lines. It waits whole, or is lost and counted.
 #[derive(Drop)]
 pub struct NoteList<A: Allocator> {
     bytes: Vec<u8, A>,
@@ -65,7 +66,8 @@ impl<A: Allocator + Copy> NoteList<A> {
         }
     }
 
-    /// Adds a note behind all that wait already. At a fault the note is lost and counted, and nothing else has changed.
+    /// Adds a note behind all that wait already. At a fault the note is lost and counted, and
+    /// nothing else has changed.
     pub fn post(&mut self, note: &[u8]) -> Result<(), LostNote>
         ensures whole { OnOk result (self.new
             ≡ record self.old { waiting = self.old.waiting ++ note.now }) }
@@ -109,8 +111,8 @@ impl<A: Allocator + Copy> NoteList<A> {
         self.lost = self.lost.saturating_add(1);
     }
 
-    /// Moves all that waits into `text`, and returns how many notes were lost since the last call. What was in `text` is gone; its memory
-    /// serves for what is posted next.
+    /// Moves all that waits into `text`, and returns how many notes were lost since the last call.
+    /// What was in `text` is gone; its memory serves for what is posted next.
     pub fn take_all(&mut self, text: &mut Vec<u8, A>) -> u64
         ensures text { text.new.items ≡ self.old.waiting }
         ensures lost { result ≡ self.old.lost }

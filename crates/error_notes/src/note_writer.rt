@@ -1,4 +1,5 @@
-//! A writer that posts lines, and the records of a log, as notes: whole lines for standard error, which another thread writes.
+//! A writer that posts lines, and the records of a log, as notes: whole lines for standard error,
+//! which another thread writes.
 ghost use Rattle.std.specs.Prelude.{◌≡◌, Some, [], true};
 
 use crate::note_list::NOTES_LIMIT;
@@ -10,10 +11,11 @@ use std::fmt::Display;
 use std::io::{self, Write};
 use std::sync::Wait;
 
-/// Posts what is written to it. A line is posted once its newline was written; the lines that one write ends are one note, so that nothing
-/// comes between them. A record that is logged is a note of one line. It never fails and doesn't wait for a reader. Lines for which memory
-/// is refused, or of more than 65,536 bytes together, are lost and counted as one note. What was written behind the last newline is dropped
-/// with the writer.
+/// Posts what is written to it. A line is posted once its newline was written; the lines that one
+/// write ends are one note, so that nothing comes between them. A record that is logged is a note
+/// of one line. It never fails and doesn't wait for a reader. Lines for which memory is refused, or
+/// of more than 65,536 bytes together, are lost and counted as one note. What was written behind
+/// the last newline is dropped with the writer.
 #[derive(Drop)]
 pub struct NoteWriter<'a, R> {
     rt: &'a R,
@@ -29,9 +31,7 @@ impl<'a, R: Wait> NoteWriter<'a, R> {
         NoteWriter {
             rt,
             notes,
-            // What was written and isn't posted yet.
             line: Vec::new(notes.alloc),
-            // Whether some of that was lost.
             has_lost_some: false,
         }
     }
@@ -58,10 +58,12 @@ impl<'a, R: Wait> NoteWriter<'a, R> {
 }
 
 impl<'a, R: Wait> Write for NoteWriter<'a, R> {
-    // Posts the whole lines as one note, and keeps what is behind the last newline until its line ends.
+    // Posts the whole lines as one note, and keeps what is behind the last newline until its line
+    // ends.
     fn write(&mut self, bytes: &[u8]) -> io::Result<usize> {
         match bytes.iter().rposition(|byte| *byte == b'\n') {
-            // All up to the last newline is whole lines, which are posted. The rest waits for its newline.
+            // All up to the last newline is whole lines, which are posted. The rest waits for its
+            // newline.
             Some(last) => {
                 self.add(&bytes[..=last]);
                 self.post_lines();
@@ -88,7 +90,8 @@ impl<'a, R: Wait> Log for NoteWriter<'a, R> {
         true
     }
 
-    // Posts a record of the log as a note of one line. Where memory for the line is refused, the note counts as lost.
+    // Posts a record of the log as a note of one line. Where memory for the line is refused, the
+    // note counts as lost.
     fn log<D: Display, K: Source, S: Spans>(&self, record: &Record<'_, D, K, S>) {
         let alloc = self.notes.alloc;
         // What it says, without the module that says it: the line is for whoever operates the tree.

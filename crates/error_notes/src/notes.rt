@@ -1,11 +1,13 @@
-//! The notes, whole lines for standard error, that anybody posts, and for which the thread that writes them waits.
+//! The notes, whole lines for standard error, that anybody posts, and for which the thread that
+//! writes them waits.
 use crate::note_list::NoteList;
 use std::alloc::Global;
 use std::sync::{Condvar, Mutex, Wait};
 use std::time::{Clock, Duration};
 
-/// The lines for standard error that are still to be written. Anybody may post, and nobody who posts waits for the reader of standard
-/// error: one thread writes, in `write_notes`, and holds no lock meanwhile.
+/// The lines for standard error that are still to be written. Anybody may post, and nobody who
+/// posts waits for the reader of standard error: one thread writes, in `write_notes`, and holds no
+/// lock meanwhile.
 #[derive(Drop)]
 pub struct Notes {
     pub(crate) alloc: Global,
@@ -23,19 +25,16 @@ impl Notes {
     pub fn new(alloc: Global) -> Notes {
         Notes {
             alloc,
-            // What waits to be written.
             list: Mutex::new(NoteList::new(alloc)),
-            // Notified when that changes.
             changed: Condvar::new(),
-            // Whether all that was posted before the close is written.
             all_written: Mutex::new(false),
-            // Notified once it is.
             written: Condvar::new(),
         }
     }
 
-    /// Posts a note: one or more whole lines, each with its newline. It is written behind all that were posted before, whole or not at
-    /// all. Where it doesn't fit, where memory is refused, or once the list was closed, it is lost, and counted.
+    /// Posts a note: one or more whole lines, each with its newline. It is written behind all that
+    /// were posted before, whole or not at all. Where it doesn't fit, where memory is refused, or
+    /// once the list was closed, it is lost, and counted.
     pub fn post<R: Wait>(&self, rt: &R, note: &[u8]) {
         // A note that is lost is counted by the list.
         let _ = self.list.lock(rt).post(note);
@@ -55,7 +54,8 @@ impl Notes {
         self.changed.notify_all();
     }
 
-    /// Waits until all that was posted before `close` was written, but at most for `time`. Returns whether it was.
+    /// Waits until all that was posted before `close` was written, but at most for `time`. Returns
+    /// whether it was.
     pub fn await_written<R: Wait + Clock>(&self, rt: &R, time: Duration) -> bool {
         let all_written = self.all_written.lock(rt);
         let (all_written, _late) = self
@@ -64,8 +64,8 @@ impl Notes {
         *all_written
     }
 
-    /// Waits until there is something to tell, moves the notes into `text`, and returns how many were lost. None once the list was closed
-    /// and nothing is left to tell.
+    /// Waits until there is something to tell, moves the notes into `text`, and returns how many
+    /// were lost. None once the list was closed and nothing is left to tell.
     pub(crate) fn wait_for_notes<R: Wait>(&self, rt: &R, text: &mut Vec<u8>) -> Option<u64> {
         let list = self.list.lock(rt);
         let mut list = self

@@ -11,8 +11,9 @@ use std::time::Clock;
 /// How much stack the thread gets, in bytes.
 const STACK: usize = 256 * 1024;
 
-/// Writes notes as they come, each line by one call of `write_all`, and after them a line that says how many were lost, if any were. A line
-/// that can't be written is left out. It returns once the notes were closed and all were written.
+/// Writes notes as they come, each line by one call of `write_all`, and after them a line that says
+/// how many were lost, if any were. A line that can't be written is left out. It returns once the
+/// notes were closed and all were written.
 pub fn write_notes<R: Wait, E: Write>(rt: &R, notes: &Notes, errors: &mut E) {
     let mut text = Vec::new(notes.alloc);
     for _ in rt.forever() {
@@ -44,13 +45,15 @@ fn write_loss<E: Write>(errors: &mut E, lost: u64) {
     let _ = errors.write_all(line.as_bytes());
 }
 
-// The body of the thread that writes notes to `errors`: it ends once the notes were closed and all were written.
+// The body of the thread that writes notes to `errors`: it ends once the notes were closed and all
+// were written.
 fn write_to<R: Wait + Drop, E: Write + Drop>(rt: R, notes: Arc<Notes, Global>, mut errors: E) {
     write_notes(&rt, &notes, &mut errors);
 }
 
-/// Makes notes, and starts a thread that writes them to `errors`. Nobody joins the thread, since it may sit in a write for ever: wait for
-/// it by `await_written`. None where memory is refused or the thread can't be started.
+/// Makes notes, and starts a thread that writes them to `errors`. Nobody joins the thread, since it
+/// may sit in a write for ever: wait for it by `await_written`. None where memory is refused or the
+/// thread can't be started.
 pub fn start_notes<
     R: Threads + Wait + Clock + Copy + Send + Sync + Drop + 'static,
     E: Write + Send + Drop + 'static,

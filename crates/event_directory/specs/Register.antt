@@ -5,8 +5,8 @@ use Rattle.event_directory.specs.Directories.{is_same_source}
 use Rattle.event_directory.specs.Parts.{room_at, IsAbsent}
 use Rattle.event_directory.specs.Remembered.{Followed, DirectoriesShown, DirectoriesPrepared}
 use Rattle.event_directory.specs.Sending.{KeptSubscription, kept_without}
-use Rattle.event_directory.specs.declared.pending.Pending.{Pending}
-use Rattle.event_directory.specs.declared.pending.Pending.TheVariants as pending
+use Rattle.event_directory.specs.declared.pending_step.PendingStep.{PendingStep}
+use Rattle.event_directory.specs.declared.pending_step.PendingStep.TheVariants as pending
 use Rattle.event_directory.specs.declared.source.Source.{Source}
 
 -- the names of the free directories, the subscribers, what those of each source have heard and what they are prepared to hear,
@@ -88,7 +88,7 @@ abbrev pub with_followed : List Followed → DirectoriesShown → DirectoriesSho
 with_followed fs s = record { names = s.names; subscribers = s.subscribers; followed = fs; next = s.next }
 
 -- what is prepared, where this change is left to be made
-abbrev pub prepared_by_pending : {F A : Type 0} → Pending F A → DirectoriesShown → DirectoriesPrepared
+abbrev pub prepared_by_pending : {F A : Type 0} → PendingStep F A → DirectoriesShown → DirectoriesPrepared
 prepared_by_pending pending.Nothing s = record { shown = s; joins = None }
 prepared_by_pending (pending.Make name) s = record { shown = with_free_name name s; joins = None }
 prepared_by_pending (pending.Join source) s = record { shown = s; joins = Some source }
@@ -112,7 +112,7 @@ pub record CanStart (source : Source) (standing : List KeptSubscription) (room :
   pub next : r.next < 2 ^ 63
 
 -- there is room for the change that is left to be made
-abbrev pub HasRoom : {F A : Type 0} → Pending F A → Registered → Type 0
+abbrev pub HasRoom : {F A : Type 0} → PendingStep F A → Registered → Type 0
 HasRoom pending.Nothing r = Unit {0}
 HasRoom (pending.Make name) r = 0 < r.name_room
 HasRoom (pending.Join source) r = CanJoin source r

@@ -1,5 +1,5 @@
-//! One event directory: the subscriptions of a service's events, or of letters that are sent to it. Letters are first prepared, which changes
-//! nothing that is shown, then heard: looked at by each subscription whose pattern is still sought (it is live).
+//! One event directory: the subscriptions of a service's events, or of letters that are sent to it.
+//! Letters are prepared, which changes nothing that is shown, and then heard.
 ghost use Rattle.std.specs.Prelude.{◌≡◌, ◌<◌, ◌++◌, ◌∷◌, [], List, IfOk, OnOk, OnErr, IfErr, All, map, ◌+◌, take, drop, IfSome, IfNone, option_map, length, ◌==◌, ◌≤◌, vec_len, vec_capacity};
 ghost use Rattle.event_directory.specs.Sending.{TextSubscription, HaveHeard, after_letter, hits_from, after_letters, hits_from_letters, Sends, Prepares, left_without, new_kept_subscription, new_text_subscription, view_of, kept_without};
 ghost use Rattle.event_directory.specs.Views.{list_of_subscription};
@@ -19,18 +19,19 @@ use s6_events::{Letter, NoMemory, SubId};
 use std::alloc::Allocator;
 use std::marker::Model;
 
-/// The subscriptions of one event directory, in the order in which they were made, so in rising serial. Page `fifodir`; that
-/// they are remembered in memory, and not in a folder of pipes, is chosen here.
+/// The subscriptions of one event directory, in the order in which they were made, so in rising
+/// serial. Page `fifodir`; that they are remembered in memory, and not in a folder of pipes, is
+/// chosen here.
 ///
-/// They share one text, and each live subscription knows where its own text begins in it. To hear a letter is to add it to that text, and
-/// to seek the pattern of each live subscription in its own. What comes before all their texts is dropped, and a letter that no live
-/// subscription hears is not kept.
+/// They share one text, in which the text of each live subscription begins somewhere. A letter is
+/// heard by adding it, and seeking the pattern of each live subscription in its own text. What
+/// comes before all their texts is dropped, and a letter that no live subscription hears is not
+/// kept.
 ///
-/// The letters of a step are planned and then heard: `prepare` takes all memory and changes nothing that is shown, `commit` takes none.
-/// What letters will give is first worked out in a draft of each subscription (it is prepared); what `prepare` has worked out is then
-/// kept in a second draft (it is planned) until `commit`. `send` prepares one letter and hears it at once. A call that is refused memory
-/// leaves an earlier plan as it was: `commit` still hears the letters of that plan, and no others. The caller limits how many
-/// subscriptions there are.
+/// `prepare` takes all memory: it works a step's letters out on drafts of the subscriptions, as a
+/// plan. `commit` then hears the plan, and takes none. `send` does both with one letter. A call
+/// that is refused memory leaves the earlier plan. The caller limits how many subscriptions there
+/// are.
 #[derive(Drop)]
 pub struct Directory<F: Finds, A: Allocator> {
     subscriptions: Vec<Subscription<F, A>, A>,
@@ -62,8 +63,7 @@ impl<F: Finds, A: Allocator> Model for Directory<F, A> {
 }
 
 impl<F: Finds, A: Allocator + Copy> Directory<F, A> {
-    /// A directory with no subscription. `text` has the letters that its subscriptions have heard, and after them those that are prepared; `heard`
-    /// counts the first. `planned` has the letters of a plan that waits to be committed. There are none of all these.
+    /// A directory with no subscription, no letter and no plan.
     pub fn new(alloc: A) -> Directory<F, A>
         ensures none { result.standing ≡ [] }
         ensures planned { result.planned ≡ [] }
@@ -77,9 +77,9 @@ impl<F: Finds, A: Allocator + Copy> Directory<F, A> {
         }
     }
 
-    /// Subscribes from now on, with a serial greater than those before: for one match, or again after each match. Page
-    /// `s6-ftrig-listen1`. It does not hear the letters of a plan that is not committed yet. Where memory is refused, the pattern comes
-    /// back and nothing has changed.
+    /// Subscribes from now on, with a serial greater than those before: for one match, or again
+    /// after each match. Page `s6-ftrig-listen1`. It does not hear the letters of a plan that is
+    /// not committed yet. Where memory is refused, the pattern comes back and nothing has changed.
     pub fn subscribe(&mut self, id: SubId, pattern: F, repeats: bool) -> Result<(), F>
         requires { All (λ s. s.id < id) self.old.standing }
         ensures ok { OnOk result (self.new.standing
@@ -101,7 +101,7 @@ impl<F: Finds, A: Allocator + Copy> Directory<F, A> {
         Ok(())
     }
 
-    /// Subscribes from now on, in the place that `prepare` made. It does not hear the letters of a plan that is not committed yet.
+    /// Subscribes from now on, in the place that `prepare` made, but not to letters of a plan.
     pub fn join(&mut self, id: SubId, pattern: F, repeats: bool)
         requires room { 0 < self.old.room }
         requires greater { All (λ s. s.id < id) self.old.standing }
@@ -117,7 +117,7 @@ impl<F: Finds, A: Allocator + Copy> Directory<F, A> {
         self.take_in(id, pattern, repeats);
     }
 
-    // Subscribes from now on; a place was made before. For the proof of `join`: its clauses speak only of what is stored.
+    // Subscribes from now on, in a place that was made. For the proof of `join`.
     pub(crate) fn take_in(&mut self, id: SubId, pattern: F, repeats: bool)
         requires { 0 < self.old.room }
         ensures after { self.new.standing ≡
@@ -130,7 +130,7 @@ impl<F: Finds, A: Allocator + Copy> Directory<F, A> {
             .push_reserved(Subscription::new(alloc, id, pattern, repeats));
     }
 
-    // A directory with no subscription, and a place for one: no letter is heard yet (`heard`), and there is no plan.
+    // A directory with no subscription, and a place for one.
     pub(crate) fn with_place(alloc: A) -> Result<Directory<F, A>, NoMemory>
         ensures none { IfOk result (λ d. d.standing ≡ []) }
         ensures room { IfOk result (λ d. 0 < d.room) }
@@ -164,7 +164,7 @@ impl<F: Finds, A: Allocator + Copy> Directory<F, A> {
         self.subscriptions.is_empty()
     }
 
-    /// Ends the subscription of this serial, if there is one, also in a plan that is not committed yet.
+    /// Ends the subscription of this serial, if there is one, also in a plan.
     pub fn unsubscribe(&mut self, id: SubId)
         ensures after { self.new.standing ≡ kept_without id self.old.standing }
         ensures planned { self.new.planned ≡ kept_without id self.old.planned }
@@ -175,8 +175,9 @@ impl<F: Finds, A: Allocator + Copy> Directory<F, A> {
         self.leave(id);
     }
 
-    // Ends the subscription of this serial. Where there is no plan, letters that are only prepared are given up, and those that no subscription
-    // needs any more are dropped; else the text stays until the plan is committed.
+    // Ends the subscription of this serial. Where there is no plan, letters that are only prepared
+    // are given up, and those that no subscription needs any more are dropped; else the text stays
+    // until the plan is committed.
     fn leave(&mut self, id: SubId)
         ensures after { self.new.standing ≡ kept_without id self.old.standing }
         ensures planned { self.new.planned ≡ kept_without id self.old.planned }
@@ -201,7 +202,7 @@ impl<F: Finds, A: Allocator + Copy> Directory<F, A> {
         self.stored_view(id)
     }
 
-    // What the subscription of this serial has heard. For the proof of `list`: its clause speaks only of what is stored.
+    // What the subscription of this serial has heard. For the proof of `list`.
     fn stored_view(&self, id: SubId) -> Option<SubView<'_>>
         ensures { option_map (λ v. (v.letters.now, v.state)) result ≡ view_of id self.now.standing }
     {
@@ -212,8 +213,9 @@ impl<F: Finds, A: Allocator + Copy> Directory<F, A> {
         })
     }
 
-    /// Sends one letter: each live subscription hears it. Returns the hits, in rising serial. An earlier plan is forgotten. Page
-    /// `s6-ftrig-notify`. NoMemory where memory is refused: nothing has changed then, and an earlier plan is still there.
+    /// Sends one letter: each live subscription hears it. Returns the hits, in rising serial. An
+    /// earlier plan is forgotten. Page `s6-ftrig-notify`. NoMemory where memory is refused: nothing
+    /// has changed then, and an earlier plan is still there.
     pub fn send(&mut self, letter: Letter) -> Result<Vec<(SubId, Hit), A>, NoMemory>
         ensures hits { IfOk result (λ hits. hits.items
             ≡ hits_from F.test letter self.old.standing) }
@@ -232,7 +234,7 @@ impl<F: Finds, A: Allocator + Copy> Directory<F, A> {
         Ok(hits)
     }
 
-    // Prepares one letter and hears it. For the proof of `send`: its clauses speak only of what is stored.
+    // Prepares one letter and hears it. For the proof of `send`.
     fn hear(&mut self, letter: Letter) -> Result<Vec<(SubId, Hit), A>, NoMemory>
         ensures hits { IfOk result (λ hits. hits.items
             ≡ hits_from F.test letter self.old.standing) }
@@ -259,8 +261,8 @@ impl<F: Finds, A: Allocator + Copy> Directory<F, A> {
         self.text.truncate(self.heard);
     }
 
-    // Prepares one more letter, and returns the hits (matches of subscriptions) that it will give. The letter is not kept where no subscription
-    // listens.
+    // Prepares one more letter, and returns the hits that it will give. It is not kept where no
+    // subscription listens.
     pub(crate) fn prepare_more(&mut self, letter: Letter) -> Result<Vec<(SubId, Hit), A>, NoMemory>
         ensures hits { IfOk result (λ hits. hits.items
             ≡ hits_from F.test letter self.old.prepared) }
@@ -279,8 +281,9 @@ impl<F: Finds, A: Allocator + Copy> Directory<F, A> {
         Ok(hits)
     }
 
-    /// Plans the letters of one step, and makes a place for one more subscription. Nothing is heard yet, and an earlier plan is
-    /// forgotten. NoMemory where memory is refused: nothing has changed then, and an earlier plan is still there.
+    /// Plans the letters of one step, and makes a place for one more subscription. Nothing is heard
+    /// yet, and an earlier plan is forgotten. NoMemory where memory is refused: nothing has changed
+    /// then, and an earlier plan is still there.
     pub fn prepare(&mut self, letters: &[Letter]) -> Result<LettersPlan<A>, NoMemory>
         ensures hits { IfOk result (λ plan. plan
             ≡ hits_from_letters F.test letters.now self.old.standing) }
@@ -299,7 +302,7 @@ impl<F: Finds, A: Allocator + Copy> Directory<F, A> {
         Ok(plan)
     }
 
-    // Prepares these letters, which become the plan. For the proof of `prepare`: its clauses speak only of what is stored.
+    // Prepares these letters, which become the plan. For the proof of `prepare`.
     fn prepare_stored(&mut self, letters: &[Letter]) -> Result<LettersPlan<A>, NoMemory>
         ensures hits { IfOk result (λ plan. plan
             ≡ hits_from_letters F.test letters.now self.old.standing) }
@@ -316,7 +319,8 @@ impl<F: Finds, A: Allocator + Copy> Directory<F, A> {
         Ok(LettersPlan { hits })
     }
 
-    // What is prepared becomes the plan, with a copy of its letters. These leave the text, whose memory keeps the room for them.
+    // What is prepared becomes the plan, with a copy of its letters. These leave the text, whose
+    // memory keeps the room for them.
     fn stand_by(&mut self) -> Result<(), NoMemory>
         ensures planned { OnOk result (self.new.planned ≡ self.old.prepared) }
         ensures still { OnErr result (self.new.planned ≡ self.old.planned) }
@@ -331,8 +335,7 @@ impl<F: Finds, A: Allocator + Copy> Directory<F, A> {
         Ok(())
     }
 
-    /// Hears the letters of the plan, if one is not committed yet, and returns the hits of `plan`. Afterwards there is none, so that a
-    /// second commit hears nothing.
+    /// Hears the letters of the plan, if there is one, and returns its hits. Then there is none.
     pub fn commit(&mut self, plan: LettersPlan<A>) -> Vec<Vec<(SubId, Hit), A>, A>
         ensures after { self.new.standing ≡ self.old.planned }
         ensures idle { self.new.planned ≡ self.new.standing }
@@ -343,7 +346,7 @@ impl<F: Finds, A: Allocator + Copy> Directory<F, A> {
         plan.hits
     }
 
-    // Hears the letters of the plan, if it is not committed yet: they go behind those that are heard. Afterwards there is none.
+    // Hears the letters of the plan, if there is one: they go behind those that are heard.
     fn hear_planned(&mut self)
         ensures after { self.new.standing ≡ self.old.planned }
         ensures idle { self.new.planned ≡ self.new.standing }
@@ -358,7 +361,7 @@ impl<F: Finds, A: Allocator + Copy> Directory<F, A> {
         self.heard = forget(&mut self.text, &self.subscriptions);
     }
 
-    // Hears what is prepared, and drops letters that no subscription needs any more. Afterwards there is no plan.
+    // Hears what is prepared, and drops letters that no subscription needs. Then there is no plan.
     pub(crate) fn hear_prepared(&mut self)
         ensures after { self.new.standing ≡ self.old.prepared }
         ensures idle { self.new.planned ≡ self.new.standing }
@@ -379,7 +382,7 @@ impl<A: Allocator + Copy> Directory<Pattern, A> {
     }
 }
 
-// Prepares several letters, and returns the hits (matches of subscriptions) that each of them will give.
+// Prepares several letters, and returns the hits that each of them will give.
 fn prepare_letters<F: Finds, A: Allocator + Copy>(
     directory: &mut Directory<F, A>,
     letters: &[Letter],
@@ -400,7 +403,7 @@ fn prepare_letters<F: Finds, A: Allocator + Copy>(
     Ok(hits)
 }
 
-// Drops the first letters, which are in the text of no live subscription, and returns how many are left.
+// Drops the first letters, which no live subscription needs, and returns how many are left.
 fn forget<F: Finds, A: Allocator + Copy>(
     text: &mut Vec<Letter, A>,
     subscriptions: &[Subscription<F, A>],
@@ -417,7 +420,7 @@ fn forget<F: Finds, A: Allocator + Copy>(
     left
 }
 
-// A copy of the letters of a text after the first `heard` ones: those that are prepared and not heard yet.
+// A copy of the letters of a text after the first `heard` ones.
 fn copy_after<A: Allocator + Copy>(
     alloc: A,
     text: &[Letter],
@@ -431,7 +434,7 @@ fn copy_after<A: Allocator + Copy>(
     Ok(letters)
 }
 
-// Puts these letters into a text after the first `heard` ones, in place of those that were there; there is room for them.
+// Puts these letters into a text after the first `heard` ones, in place of others; they fit.
 fn put_after<A: Allocator + Copy>(text: &mut Vec<Letter, A>, heard: usize, letters: &[Letter])
     requires there { heard ≤ vec_len text.old }
     requires room { heard + length letters.now ≤ vec_capacity text.old }

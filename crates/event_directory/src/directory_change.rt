@@ -13,7 +13,8 @@ pub enum DirectoryChange<'a> {
     Make(Name),
     /// This message is to be sent to the free directory of this name. Page `s6-ftrig-notify`.
     Send(Name, &'a Message),
-    /// A subscription to this source is to be made; its pattern is handed in with `commit`. Page `s6-ftrig-listen1`.
+    /// A subscription to this source is to be made; its pattern is handed in with `commit`. Page
+    /// `s6-ftrig-listen1`.
     Subscribe(Source),
     /// The subscription of this serial is to end.
     Unsubscribe(SubId),

@@ -3,8 +3,9 @@ ghost use Rattle.std.specs.Prelude.{◌≡◌, ℕ, List, Bool, IfOk};
 
 use s6_events::{Letter, NoMemory};
 
-/// A pattern, as far as a directory looks at it: it has a text, and it finds a match in some letters or finds none.
-/// `Pattern` is the one that directories are made for; a test may hand in one that needs no regular expression.
+/// A pattern, as far as a directory looks at it: it has a text, and it finds a match in some
+/// letters or finds none. `Pattern` is the one that directories are made for; a test may hand in
+/// one that needs no regular expression.
 pub trait Finds: Drop {
     /// The text that the pattern was made from.
     ghost source: { Self → List ℕ };

@@ -12,8 +12,8 @@ use s6_events::{Letter, Name, NoMemory, SubId};
 use std::alloc::Allocator;
 use std::marker::Model;
 
-/// A subscription as plain data: the text of its pattern, the letters at which its texts matched, and those since its last match while it
-/// is live.
+/// A subscription as plain data: the text of its pattern, the letters at which its texts matched,
+/// and those since its last match while it is live.
 #[derive(Drop)]
 pub struct SubscriptionImage<A: Allocator> {
     pub id: SubId,
@@ -54,8 +54,9 @@ impl<A: Allocator> Model for SourceImage<A> {
     ghost view = { λ s. record { source = s.source; standing = s.standing.items } };
 }
 
-/// All event directories as plain data: the names of the free ones, the serial and the source of each subscription, what the
-/// subscriptions of each source have heard, and the next serial. A clause sees it as what the directories show.
+/// All event directories as plain data: the names of the free ones, the serial and the source of
+/// each subscription, what the subscriptions of each source have heard, and the next serial. A
+/// clause sees it as what the directories show.
 #[derive(Drop)]
 pub struct DirectoriesImage<A: Allocator> {
     pub names: Vec<Name, A>,
@@ -110,7 +111,8 @@ pub fn images_of<A: Allocator + Copy>(
     Ok(images)
 }
 
-/// The subscriptions of all sources (services and free directories that are listened to) as plain data.
+/// The subscriptions of all sources (services and free directories that are listened to) as plain
+/// data.
 pub fn source_images<A: Allocator + Copy>(
     alloc: A,
     listened: &[SourceDirectory<Pattern, A>],

@@ -1,4 +1,5 @@
-//! Event directories and their subscriptions: a subscription hears a letter when its pattern is sought in the text that ends with it.
+//! Event directories and their subscriptions: a subscription hears a letter when its pattern is
+//! sought in the text that ends with it.
 #![tactic(auto)]
 
 mod directories;
@@ -13,7 +14,7 @@ mod listened;
 mod message;
 mod pattern;
 mod pattern_fault;
-mod pending;
+mod pending_step;
 mod plan;
 mod refusing;
 mod register;

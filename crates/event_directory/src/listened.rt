@@ -1,5 +1,6 @@
-//! All event directories that are listened to (they have a subscription), each with its source: a service, or a free directory. Letters are
-//! first prepared, which changes nothing that is shown, then heard.
+//! All event directories that are listened to (they have a subscription), each with its source: a
+//! service, or a free directory. Letters are first prepared, which changes nothing that is shown,
+//! then heard.
 ghost use Rattle.std.specs.Prelude.{◌≡◌, ◌<◌, ◌++◌, IfOk, OnOk, map, option_map, true, false};
 ghost use Rattle.std.specs.List.{position};
 ghost use Rattle.event_directory.specs.Directories.{is_same_source};
@@ -50,7 +51,8 @@ fn place_in<F: Finds, A: Allocator + Copy>(
         .position(|directory| directory.is_of(source))
 }
 
-/// Prepares one more letter of this source, and adds the hits (matches of subscriptions) that it will give to `matches`.
+/// Prepares one more letter of this source, and adds the hits (matches of subscriptions) that it
+/// will give to `matches`.
 pub fn hear<F: Finds, A: Allocator + Copy>(
     listened: &mut [SourceDirectory<F, A>],
     source: Source,
@@ -77,8 +79,8 @@ pub fn hear<F: Finds, A: Allocator + Copy>(
     Ok(())
 }
 
-/// Makes a place for one more subscription in the directory of this source. Returns whether the source has a directory: one without a subscription
-/// has none.
+/// Makes a place for one more subscription in the directory of this source. Returns whether the
+/// source has a directory: one without a subscription has none.
 pub fn reserve_at<F: Finds, A: Allocator + Copy>(
     listened: &mut [SourceDirectory<F, A>],
     source: Source,
@@ -115,13 +117,14 @@ pub fn take_in_at<F: Finds, A: Allocator + Copy>(
 {
     match place_in(listened, source) {
         Some(place) => listened[place].take_in(id, pattern, repeats),
-        // `reserve_at` found this directory when the place was made, and it stays while it has a subscription.
+        // `reserve_at` found this directory when the place was made, and it stays while it has a
+        // subscription.
         None => unreachable!(),
     }
 }
 
-/// Ends the subscription of this serial and this source, if there is one. Where the source has no subscription left, its directory is
-/// dropped.
+/// Ends the subscription of this serial and this source, if there is one. Where the source has no
+/// subscription left, its directory is dropped.
 pub fn leave_at<F: Finds, A: Allocator + Copy>(
     listened: &mut Vec<SourceDirectory<F, A>, A>,
     source: Source,

@@ -11,7 +11,8 @@ use std::marker::Model;
 // The most letters of a message.
 const MESSAGE_LIMIT: usize = 64;
 
-/// A message to a free directory: 1 to 64 letters, each an event of its own. Page `s6-ftrig-notify`; the limit is chosen here.
+/// A message to a free directory: 1 to 64 letters, each an event of its own. Page
+/// `s6-ftrig-notify`; the limit is chosen here.
 #[derive(Drop)]
 pub struct Message {
     bytes: ArrayVec<u8, 64>,

@@ -13,15 +13,17 @@ use text_matcher::{BuildFault, Limits, TextMatcher};
 // The most letters of one text that are searched.
 pub(crate) const TEXT_LIMIT: usize = 1024;
 
-/// How large the automaton of a pattern may be. A letter costs as much at most as with a pattern of 256 letters, which costs 261. So a
-/// letter at which 256 subscriptions look is heard soon, whatever their patterns, and these take little memory.
+/// How large the automaton of a pattern may be. A letter costs as much at most as with a pattern of
+/// 256 letters, which costs 261. So a letter at which 256 subscriptions look is heard soon,
+/// whatever their patterns, and these take little memory.
 pub const PATTERN_LIMITS: Limits = Limits {
     bytes: 16_384,
     letter_cost: 261,
 };
 
-/// A regular expression of the crate `regex`, built from a text of 1 to 256 bytes 0x20 to 0x7e, with all that a search for it
-/// needs. A clause sees it as its text. Page `s6-ftrig-listen1`; s6 takes POSIX expressions.
+/// A regular expression of the crate `regex`, built from a text of 1 to 256 bytes 0x20 to 0x7e,
+/// with all that a search for it needs. A clause sees it as its text. Page `s6-ftrig-listen1`; s6
+/// takes POSIX expressions.
 #[derive(Drop)]
 pub struct Pattern {
     // In a box, since a matcher is large, and acts that may hold a pattern are moved about.
@@ -40,9 +42,10 @@ impl Model for Pattern {
 }
 
 impl Pattern {
-    /// The pattern of this text. Length, which is looked for first: the text is not 1 to 256 bytes from 0x20 to 0x7e. Refused: `regex` refuses the
-    /// text, or its automaton is larger than `PATTERN_LIMITS` allow. NoMemory: memory is refused. The matcher that is built searches texts of at
-    /// most 1,024 letters (`TEXT_LIMIT`).
+    /// The pattern of this text. Length, which is looked for first: the text is not 1 to 256 bytes
+    /// from 0x20 to 0x7e. Refused: `regex` refuses the text, or its automaton is larger than
+    /// `PATTERN_LIMITS` allow. NoMemory: memory is refused. The matcher that is built searches
+    /// texts of at most 1,024 letters (`TEXT_LIMIT`).
     pub fn build(alloc: Global, text: &str) -> Result<Pattern, PatternFault>
         ensures ok { IfOk result (λ p. p ≡ text.now) }
         ensures expression { IfOk result (λ _. is_expression text.now ≡ true) }
@@ -92,8 +95,9 @@ fn fault_of(fault: BuildFault) -> PatternFault
     }
 }
 
-// The matcher takes in (hears) these letters and no others, one by one. Where they are those that it heard and some more, it hears only these more:
-// a text mostly grows by a letter. Else it starts again.
+// The matcher takes in (hears) these letters and no others, one by one. Where they are those that
+// it heard and some more, it hears only these more: a text mostly grows by a letter. Else it starts
+// again.
 fn hear_all(matcher: &mut TextMatcher, letters: &[Letter]) -> Result<(), NoMemory>
     ensures heard { OnOk result (matcher.new.heard ≡ letters.now) }
     ensures source { matcher.new.source ≡ matcher.old.source }

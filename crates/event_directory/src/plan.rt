@@ -4,7 +4,8 @@ use s6_events::SubId;
 use std::alloc::Allocator;
 use std::marker::Model;
 
-/// What the letters of one step give once they are heard: for each letter in turn its hits, in rising serial.
+/// What the letters of one step give once they are heard: for each letter in turn its hits, in
+/// rising serial.
 #[derive(Drop)]
 pub struct LettersPlan<A: Allocator> {
     pub(crate) hits: Vec<Vec<(SubId, Hit), A>, A>,

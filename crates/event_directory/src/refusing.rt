@@ -1,4 +1,5 @@
-//! Why a change of the event directories is refused. Before this, `refusals.rt` of tree_core refuses by names (NoService, Reserved).
+//! Why a change of the event directories is refused. Before this, `refusals.rt` of tree_core
+//! refuses by names (NoService, Reserved).
 ghost use Rattle.std.specs.Prelude.{◌≡◌, ◌==◌, [], Bool, bytes_eq, option_map};
 ghost use Rattle.std.specs.List.{list_any};
 ghost use Rattle.event_directory.specs.Changes.{directory_request_of};
@@ -22,7 +23,8 @@ fn has_name(names: &[Name], name: Name) -> bool
     names.iter().any(|other| name == *other)
 }
 
-// Whether the source of a subscription is there: a service always is, and a free directory if it is among `names`, those of all.
+// Whether the source of a subscription is there: a service always is, and a free directory if it is
+// among `names`, those of all.
 fn is_there(names: &[Name], source: Source) -> bool
     ensures { result ≡ is_source_named source names.now }
 {
@@ -32,15 +34,16 @@ fn is_there(names: &[Name], source: Source) -> bool
     }
 }
 
-// Whether there is a subscription of this serial; `subscribers` are all subscriptions, each with its source.
+// Whether there is a subscription of this serial; `subscribers` are all subscriptions, each with
+// its source.
 fn has_subscriber(subscribers: &[(SubId, Source)], id: SubId) -> bool
     ensures { result ≡ list_any (λ s. s.0 == id) subscribers.now }
 {
     subscribers.iter().any(|subscriber| subscriber.0 == id)
 }
 
-// Why no free directory of this name can be made: `Exists` where `names`, those of all free directories, have it, `TooMany` where there are
-// 256; None where it can be made.
+// Why no free directory of this name can be made: `Exists` where `names`, those of all free
+// directories, have it, `TooMany` where there are 256; None where it can be made.
 fn make_refusal(names: &[Name], name: Name) -> Option<DirectoryFault>
     ensures { result ≡ stored_refusal (make_directory name) names.now [] }
 {
@@ -53,8 +56,8 @@ fn make_refusal(names: &[Name], name: Name) -> Option<DirectoryFault>
     }
 }
 
-// Why no message can be sent to the free directory of this name: `NoSuch` where `names`, those of all free directories, don't have it; None
-// where it can be sent.
+// Why no message can be sent to the free directory of this name: `NoSuch` where `names`, those of
+// all free directories, don't have it; None where it can be sent.
 fn send_refusal(names: &[Name], name: Name) -> Option<DirectoryFault>
     ensures { result ≡ stored_refusal (send name []) names.now [] }
 {
@@ -65,8 +68,9 @@ fn send_refusal(names: &[Name], name: Name) -> Option<DirectoryFault>
     }
 }
 
-// Why no subscription to this source can be made: `NoSuch` where the source isn't there, `TooMany` where there are 256 subscriptions; None
-// where it can be made. `names` are those of all free directories, `subscribers` all subscriptions.
+// Why no subscription to this source can be made: `NoSuch` where the source isn't there, `TooMany`
+// where there are 256 subscriptions; None where it can be made. `names` are those of all free
+// directories, `subscribers` all subscriptions.
 fn subscribe_refusal(
     names: &[Name],
     subscribers: &[(SubId, Source)],
@@ -83,7 +87,8 @@ fn subscribe_refusal(
     }
 }
 
-// Why the subscription of this serial can't be ended: `NoSuch` where it isn't among `subscribers`, all subscriptions; None where it can be.
+// Why the subscription of this serial can't be ended: `NoSuch` where it isn't among `subscribers`,
+// all subscriptions; None where it can be.
 fn unsubscribe_refusal(subscribers: &[(SubId, Source)], id: SubId) -> Option<DirectoryFault>
     ensures { result ≡ stored_refusal (unsubscribe id) [] subscribers.now }
 {
@@ -94,7 +99,8 @@ fn unsubscribe_refusal(subscribers: &[(SubId, Source)], id: SubId) -> Option<Dir
     }
 }
 
-/// Why a change is refused, where these are all free directories and all subscriptions; None where it is not refused.
+/// Why a change is refused, where these are all free directories and all subscriptions; None where
+/// it is not refused.
 pub fn refusal(
     names: &[Name],
     subscribers: &[(SubId, Source)],

@@ -1,5 +1,6 @@
-//! What is stored of all event directories (the register): names of free ones, subscriptions, and the directory of each source that is listened
-//! to. A source is a service or a free directory. Letters are first prepared, which changes nothing that is shown, then heard.
+//! What is stored of all event directories (the register): names of free ones, subscriptions, and
+//! the directory of each source that is listened to. A source is a service or a free directory.
+//! Letters are first prepared, which changes nothing that is shown, then heard.
 ghost use Rattle.std.specs.Prelude.{◌≡◌, ◌<◌, ◌++◌, ◌+◌, ◌^◌, [], IfOk, OnOk, IfSome, IfNone, Some, drop, length, option_map, take, true};
 ghost use Rattle.event_directory.specs.Changes.{directory_request_of};
 ghost use Rattle.event_directory.specs.Hearing.{heard_moments, heard_message, hits_of_moments, hits_of_message};
@@ -14,7 +15,7 @@ use crate::image::{DirectoriesImage, source_images};
 use crate::listened::{begin_each, commit_each, leave_at, list_at, reserve_at, take_in_at};
 use crate::message::Message;
 use crate::pattern::Pattern;
-use crate::pending::Pending;
+use crate::pending_step::PendingStep;
 use crate::refusing::refusal;
 use crate::source::Source;
 use crate::source_directory::SourceDirectory;
@@ -24,7 +25,8 @@ use s6_events::{Moment, Name, NoMemory, SubId};
 use std::alloc::Allocator;
 use std::marker::Model;
 
-/// The free directories and the subscriptions: as they are, and as they will be once the letters that are prepared are heard.
+/// The free directories and the subscriptions: as they are, and as they will be once the letters
+/// that are prepared are heard.
 #[derive(Drop)]
 pub struct Register<F: Finds, A: Allocator> {
     // The names of the free directories, in the order in which they were made.
@@ -66,12 +68,9 @@ impl<F: Finds, A: Allocator + Copy> Register<F, A> {
             { names = []; subscribers = []; followed = []; next = 1 } }
     {
         Register {
-            // The names of the free directories.
             names: Vec::new(alloc),
-            // The subscriptions, and the directories that have one.
             subscribers: Vec::new(alloc),
             listened: Vec::new(alloc),
-            // The serial of the next subscription.
             next: 1,
         }
     }
@@ -127,7 +126,8 @@ impl<F: Finds, A: Allocator + Copy> Register<F, A> {
         begin_each(&mut self.listened);
     }
 
-    /// Prepares these moments: the letters of the marks of services among them. Adds the hits that they will give to `matches`.
+    /// Prepares these moments: the letters of the marks of services among them. Adds the hits that
+    /// they will give to `matches`.
     pub fn hear_moments(
         &mut self,
         moments: &[Moment],
@@ -143,7 +143,8 @@ impl<F: Finds, A: Allocator + Copy> Register<F, A> {
         hear_moments(&mut self.listened, moments, matches)
     }
 
-    /// Prepares the letters of a message to the free directory of this name, and adds the hits that they will give to `matches`.
+    /// Prepares the letters of a message to the free directory of this name, and adds the hits that
+    /// they will give to `matches`.
     pub fn hear_message(
         &mut self,
         name: Name,
@@ -178,9 +179,10 @@ impl<F: Finds, A: Allocator + Copy> Register<F, A> {
         Ok(())
     }
 
-    /// Makes all places for one more subscription to this source, and returns the change that is left to be made: to join the directory that the
-    /// source has (`Join`), or to give the source a first one (`Start`).
-    pub fn reserve_subscription(&mut self, source: &Source) -> Result<Pending<F, A>, NoMemory>
+    /// Makes all places for one more subscription to this source, and returns the change that is
+    /// left to be made: to join the directory that the source has (`Join`), or to give the source a
+    /// first one (`Start`).
+    pub fn reserve_subscription(&mut self, source: &Source) -> Result<PendingStep<F, A>, NoMemory>
         requires { self.old.next < 2 ^ 63 }
         ensures shown { shown_in self.new ≡ shown_in self.old }
         ensures prepared { prepared_in self.new ≡ prepared_in self.old }
@@ -191,11 +193,11 @@ impl<F: Finds, A: Allocator + Copy> Register<F, A> {
     {
         self.subscribers.reserve(1)?;
         if reserve_at(&mut self.listened, *source)? {
-            return Ok(Pending::Join(*source));
+            return Ok(PendingStep::Join(*source));
         }
         self.listened.reserve(1)?;
         let directory = SourceDirectory::with_place(*self.names.allocator(), *source)?;
-        Ok(Pending::Start(directory))
+        Ok(PendingStep::Start(directory))
     }
 
     /// Adds a free directory of this name, in a place that was made.
@@ -206,7 +208,8 @@ impl<F: Finds, A: Allocator + Copy> Register<F, A> {
         self.names.push_reserved(name);
     }
 
-    /// Subscribes to a source that has a directory, in places that were made. The subscription gets the next serial.
+    /// Subscribes to a source that has a directory, in places that were made. The subscription gets
+    /// the next serial.
     pub fn join(&mut self, source: &Source, pattern: F, repeats: bool)
         requires { CanJoin source.now self.old }
         ensures { shown_in self.new
@@ -218,7 +221,8 @@ impl<F: Finds, A: Allocator + Copy> Register<F, A> {
         self.next += 1;
     }
 
-    /// Subscribes to a source that has no directory yet, in places that were made: it gets this one. The subscription gets the next serial.
+    /// Subscribes to a source that has no directory yet, in places that were made: it gets this
+    /// one. The subscription gets the next serial.
     pub fn start(&mut self, mut directory: SourceDirectory<F, A>, pattern: F, repeats: bool)
         requires { CanStart directory.source directory.kept.standing directory.kept.room self.old }
         ensures { shown_in self.new
@@ -233,7 +237,8 @@ impl<F: Finds, A: Allocator + Copy> Register<F, A> {
         self.next += 1;
     }
 
-    /// Ends the subscription of this serial and this source: it leaves the list of all subscriptions, and the directory of its source.
+    /// Ends the subscription of this serial and this source: it leaves the list of all
+    /// subscriptions, and the directory of its source.
     pub fn leave(&mut self, id: SubId, source: Source)
         ensures { shown_in self.new ≡ without_subscription_by id source (shown_in self.old) }
     {

@@ -5,8 +5,8 @@ ghost use Rattle.event_directory.specs.declared.source.Source.TheVariants.{Servi
 
 use s6_events::{Name, Sid};
 
-/// Whose letters a subscription hears. Pages `s6-supervise`, "Events", and `fifodir`; a service and a free directory may have the
-/// same name.
+/// Whose letters a subscription hears. Pages `s6-supervise`, "Events", and `fifodir`; a service and
+/// a free directory may have the same name.
 #[derive(Clone, Copy, PartialEq, Eq, Debug)]
 pub enum Source {
     /// The marks of the service of this serial, as letters.

@@ -1,5 +1,5 @@
-//! The event directory of one source (a service, or a free directory) that is listened to. Letters are first prepared, which changes nothing
-//! that is shown, then heard.
+//! The event directory of one source (a service, or a free directory) that is listened to. Letters
+//! are first prepared, which changes nothing that is shown, then heard.
 ghost use Rattle.std.specs.Prelude.{◌≡◌, ◌<◌, ◌++◌, ◌∷◌, ◌==◌, [], IfOk, OnOk, length, option_map};
 ghost use Rattle.event_directory.specs.Directories.{is_same_source};
 ghost use Rattle.event_directory.specs.Parts.{followed_of};
@@ -66,7 +66,8 @@ impl<F: Finds, A: Allocator + Copy> SourceDirectory<F, A> {
         self.directory.begin();
     }
 
-    /// Prepares one more letter, and returns the hits (matches of subscriptions) that it will give once it is heard.
+    /// Prepares one more letter, and returns the hits (matches of subscriptions) that it will give
+    /// once it is heard.
     pub fn prepare_more(&mut self, letter: Letter) -> Result<Vec<(SubId, Hit), A>, NoMemory>
         ensures source { self.new.source ≡ self.old.source }
         ensures hits { IfOk result (λ hits. hits.items
@@ -108,7 +109,8 @@ impl<F: Finds, A: Allocator + Copy> SourceDirectory<F, A> {
         self.directory.take_in(id, pattern, repeats);
     }
 
-    /// Ends the subscription of this serial, if there is one, and returns whether no subscription is left.
+    /// Ends the subscription of this serial, if there is one, and returns whether no subscription
+    /// is left.
     pub fn unsubscribe(&mut self, id: SubId) -> bool
         ensures source { self.new.source ≡ self.old.source }
         ensures after { self.new.kept.standing ≡ kept_without id self.old.kept.standing }

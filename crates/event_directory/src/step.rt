@@ -1,5 +1,5 @@
-//! A step of all event directories, first prepared and then finished: its letters, and then one change. What the change leaves to be done when
-//! the step is made is a `Pending`.
+//! A step of all event directories, first prepared and then finished: its letters, and then one
+//! change. What the change leaves to be done when the step is made is a `PendingStep`.
 ghost use Rattle.std.specs.Prelude.{◌≡◌, ◌<◌, ◌++◌, ◌^◌, [], None, Some, IfOk, OnOk, option_map};
 ghost use Rattle.event_directory.specs.Changes.{directory_request_of};
 ghost use Rattle.event_directory.specs.Changes.DirectoryRequest.{unsubscribe};
@@ -11,34 +11,35 @@ ghost use Rattle.event_directory.specs.Remembered.{directories_after_commit};
 use crate::directory_change::{DirectoryAnswer, DirectoryChange};
 use crate::finds::Finds;
 use crate::hit::Hit;
-use crate::pending::Pending;
+use crate::pending_step::PendingStep;
 use crate::register::Register;
 use s6_events::{Moment, NoMemory, SubId};
 use std::alloc::Allocator;
 
-// Prepares the end of the subscription of this serial. Without such a subscription nothing is left to do; `refusal` has refused that
-// before.
+// Prepares the end of the subscription of this serial. Without such a subscription nothing is left
+// to do; `refusal` has refused that before.
 fn prepare_leave<F: Finds, A: Allocator + Copy>(
     register: &Register<F, A>,
     id: SubId,
-) -> Pending<F, A>
+) -> PendingStep<F, A>
     ensures pending { prepared_by_pending result (prepared_in register.now)
         ≡ stored_change F.test (unsubscribe id) (prepared_in register.now) }
     ensures room { HasRoom result register.now }
 {
     match register.source(id) {
-        Some(source) => Pending::Unsubscribe(id, source),
-        None => Pending::Nothing,
+        Some(source) => PendingStep::Unsubscribe(id, source),
+        None => PendingStep::Nothing,
     }
 }
 
-// Prepares a change that is not refused, after the moments of its step, and adds the hits that it will give to `matches`. Memory that it needs is
-// taken now. Returns what is left to be done when the step is made, and the answer.
+// Prepares a change that is not refused, after the moments of its step, and adds the hits that it
+// will give to `matches`. Memory that it needs is taken now. Returns what is left to be done when
+// the step is made, and the answer.
 fn prepare_change<F: Finds, A: Allocator + Copy>(
     register: &mut Register<F, A>,
     change: &DirectoryChange<'_>,
     matches: &mut Vec<(SubId, Hit), A>,
-) -> Result<(Pending<F, A>, DirectoryAnswer), NoMemory>
+) -> Result<(PendingStep<F, A>, DirectoryAnswer), NoMemory>
     requires { register.old.next < 2 ^ 63 }
     ensures shown { shown_in register.new ≡ shown_in register.old }
     ensures pending { IfOk result
@@ -52,15 +53,16 @@ fn prepare_change<F: Finds, A: Allocator + Copy>(
     ensures room { IfOk result (λ r. HasRoom r.0 register.new) }
 {
     match *change {
-        DirectoryChange::Nothing => Ok((Pending::Nothing, DirectoryAnswer::Done)),
+        DirectoryChange::Nothing => Ok((PendingStep::Nothing, DirectoryAnswer::Done)),
         DirectoryChange::Make(name) => {
             register.reserve_name()?;
-            Ok((Pending::Make(name), DirectoryAnswer::Done))
+            Ok((PendingStep::Make(name), DirectoryAnswer::Done))
         }
-        // The letters of a message are prepared like those of the moments, and then nothing is left to be done.
+        // The letters of a message are prepared like those of the moments, and then nothing is left
+        // to be done.
         DirectoryChange::Send(name, message) => {
             register.hear_message(name, message, matches)?;
-            Ok((Pending::Nothing, DirectoryAnswer::Done))
+            Ok((PendingStep::Nothing, DirectoryAnswer::Done))
         }
         DirectoryChange::Subscribe(source) => {
             let pending = register.reserve_subscription(&source)?;
@@ -73,14 +75,14 @@ fn prepare_change<F: Finds, A: Allocator + Copy>(
     }
 }
 
-/// Prepares a step: its moments, and then its change, if that is not refused. Adds the hits that they will give to `matches`. NoMemory
-/// where memory is refused: what is shown stays then too.
+/// Prepares a step: its moments, and then its change, if that is not refused. Adds the hits that
+/// they will give to `matches`. NoMemory where memory is refused: what is shown stays then too.
 pub fn work_out<F: Finds, A: Allocator + Copy>(
     register: &mut Register<F, A>,
     moments: &[Moment],
     change: &DirectoryChange<'_>,
     matches: &mut Vec<(SubId, Hit), A>,
-) -> Result<(Pending<F, A>, DirectoryAnswer), NoMemory>
+) -> Result<(PendingStep<F, A>, DirectoryAnswer), NoMemory>
     requires { register.old.next < 2 ^ 63 }
     ensures shown { shown_in register.new ≡ shown_in register.old }
     ensures pending { IfOk result
@@ -98,12 +100,13 @@ pub fn work_out<F: Finds, A: Allocator + Copy>(
 {
     hear_step(register, moments, matches)?;
     match register.refusal(change) {
-        Some(fault) => Ok((Pending::Nothing, DirectoryAnswer::Refused(fault))),
+        Some(fault) => Ok((PendingStep::Nothing, DirectoryAnswer::Refused(fault))),
         None => prepare_change(register, change, matches),
     }
 }
 
-// Prepares the moments of a step: the letters of their marks, with which nothing that was prepared before is mixed.
+// Prepares the moments of a step: the letters of their marks, with which nothing that was prepared
+// before is mixed.
 fn hear_step<F: Finds, A: Allocator + Copy>(
     register: &mut Register<F, A>,
     moments: &[Moment],
@@ -120,10 +123,11 @@ fn hear_step<F: Finds, A: Allocator + Copy>(
     register.hear_moments(moments, matches)
 }
 
-/// Makes the change of a prepared step. `offered` is the pattern for a new subscription, and whether it repeats; without it none is made.
+/// Makes the change of a prepared step. `offered` is the pattern for a new subscription, and
+/// whether it repeats; without it none is made.
 pub fn finish_step<F: Finds, A: Allocator + Copy>(
     register: &mut Register<F, A>,
-    pending: Pending<F, A>,
+    pending: PendingStep<F, A>,
     offered: Option<(F, bool)>,
 )
     requires { HasRoom pending register.old }
@@ -132,18 +136,18 @@ pub fn finish_step<F: Finds, A: Allocator + Copy>(
         (option_map (λ o. (F.source o.0, o.1)) offered) }
 {
     match pending {
-        Pending::Nothing => {}
-        Pending::Make(name) => register.add_name(name),
+        PendingStep::Nothing => {}
+        PendingStep::Make(name) => register.add_name(name),
         // The source has a directory already, which the subscription joins.
-        Pending::Join(source) => match offered {
+        PendingStep::Join(source) => match offered {
             Some((pattern, repeats)) => register.join(&source, pattern, repeats),
             None => {}
         },
         // The source gets its first subscription, and this directory with it.
-        Pending::Start(directory) => match offered {
+        PendingStep::Start(directory) => match offered {
             Some((pattern, repeats)) => register.start(directory, pattern, repeats),
             None => {}
         },
-        Pending::Unsubscribe(id, source) => register.leave(id, source),
+        PendingStep::Unsubscribe(id, source) => register.leave(id, source),
     }
 }

@@ -1,5 +1,5 @@
-//! The letters of a step, one after the other, each prepared in its directory (its source is a service or a free directory). What a letter gives
-//! one subscription is in `subscription.rt`.
+//! The letters of a step, one after the other, each prepared in its directory (its source is a
+//! service or a free directory). What a letter gives one subscription is in `subscription.rt`.
 ghost use Rattle.std.specs.Prelude.{◌≡◌, ◌++◌, OnOk, map, true};
 ghost use Rattle.std.specs.List.{list_all};
 ghost use Rattle.s6_events.specs.Letter.{is_letter};
@@ -17,8 +17,8 @@ use crate::source_directory::SourceDirectory;
 use s6_events::{Letter, Moment, Name, NoMemory, SubId};
 use std::alloc::Allocator;
 
-// Prepares one more moment: where it is a mark of a service, its letter for the subscriptions to that service. Adds the hits that it will give to
-// `matches`.
+// Prepares one more moment: where it is a mark of a service, its letter for the subscriptions to
+// that service. Adds the hits that it will give to `matches`.
 fn hear_moment<F: Finds, A: Allocator + Copy>(
     listened: &mut [SourceDirectory<F, A>],
     moment: Moment,
@@ -61,7 +61,8 @@ pub fn hear_moments<F: Finds, A: Allocator + Copy>(
     Ok(())
 }
 
-// Prepares one more letter, sent to the free directory of this name, and adds the hits that it will give to `matches`.
+// Prepares one more letter, sent to the free directory of this name, and adds the hits that it will
+// give to `matches`.
 fn hear_byte<F: Finds, A: Allocator + Copy>(
     listened: &mut [SourceDirectory<F, A>],
     name: Name,
@@ -85,7 +86,8 @@ fn hear_byte<F: Finds, A: Allocator + Copy>(
     }
 }
 
-/// Prepares these letters, sent to the free directory of this name, and adds the hits that they will give to `matches`.
+/// Prepares these letters, sent to the free directory of this name, and adds the hits that they
+/// will give to `matches`.
 pub fn hear_letters<F: Finds, A: Allocator + Copy>(
     listened: &mut [SourceDirectory<F, A>],
     name: Name,

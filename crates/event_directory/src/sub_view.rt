@@ -12,7 +12,8 @@ pub enum State {
     Overlong,
 }
 
-/// What a subscription has heard: the last letter of each match, the oldest first. Page `s6-ftrig-listen1`.
+/// What a subscription has heard: the last letter of each match, the oldest first. Page
+/// `s6-ftrig-listen1`.
 #[derive(Clone, Copy)]
 pub struct SubView<'a> {
     /// The letters at which its texts matched.

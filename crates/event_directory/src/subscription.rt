@@ -1,5 +1,6 @@
-//! One subscription: what a letter gives it (a match, Done, Overlong), and where its own text begins in that of its directory. It has two drafts
-//! of what it will be: after the letters that are being prepared (`prepared`), and after those of a plan (`planned`).
+//! One subscription: what a letter gives it (a match, Done, Overlong), and where its own text
+//! begins in that of its directory. It has two drafts of what it will be: after the letters that
+//! are being prepared (`prepared`), and after those of a plan (`planned`).
 ghost use Rattle.std.specs.Prelude.{◌≡◌, ◌<◌, ◌≤◌, ◌+◌, [], IfOk, OnOk, length, vec_len};
 ghost use Rattle.event_directory.specs.SubscriberList.{hit_between, is_live};
 ghost use Rattle.event_directory.specs.Stored.{heard_in, live_offset, new_reader, new_reading, next_reading};
@@ -13,8 +14,8 @@ use s6_events::{Letter, NoMemory, SubId};
 use std::alloc::Allocator;
 use std::marker::Model;
 
-/// What a subscription will have heard once certain letters are heard that are not heard yet. The three fields mean what those of
-/// `Subscription` do.
+/// What a subscription will have heard once certain letters are heard that are not heard yet. The
+/// three fields mean what those of `Subscription` do.
 #[derive(Drop)]
 pub struct Draft<A: Allocator> {
     // The letters at which its texts will match, after those that it has heard.
@@ -24,7 +25,8 @@ pub struct Draft<A: Allocator> {
 }
 
 impl<A: Allocator> Draft<A> {
-    // An empty draft (what a subscription will be after letters that are not heard yet): no letter matched, no text, and still live.
+    // An empty draft (what a subscription will be after letters that are not heard yet): no letter
+    // matched, no text, and still live.
     fn new(alloc: A) -> Draft<A>
     where
         A: Copy,
@@ -41,8 +43,8 @@ impl<A: Allocator> Draft<A> {
     }
 }
 
-/// A subscription: what it has heard, what it will have heard after the letters that are being prepared, and what after those of a
-/// plan that was made.
+/// A subscription: what it has heard, what it will have heard after the letters that are being
+/// prepared, and what after those of a plan that was made.
 #[derive(Drop)]
 pub struct Subscription<F: Finds, A: Allocator> {
     id: SubId,
@@ -51,7 +53,8 @@ pub struct Subscription<F: Finds, A: Allocator> {
     // The letters at which its texts matched. There is room behind them for those of each draft.
     letters: Vec<Letter, A>,
     state: State,
-    // How many letters from the end of its directory's text its own text begins, while it is live: those since its last match.
+    // How many letters from the end of its directory's text its own text begins, while it is live:
+    // those since its last match.
     offset: usize,
     // As it will be after the letters that are being prepared.
     prepared: Draft<A>,
@@ -100,11 +103,9 @@ impl<F: Finds, A: Allocator + Copy> Subscription<F, A> {
             id,
             pattern,
             repeats,
-            // The letters at which its texts matched; and how long its own text is (`offset`), from the end of that of its directory.
             letters: Vec::new(alloc),
             state: State::Live,
             offset: 0,
-            // As it will be after letters that are not heard yet: none.
             prepared: Draft::new(alloc),
             planned: Draft::new(alloc),
         }
@@ -145,7 +146,8 @@ impl<F: Finds, A: Allocator + Copy> Subscription<F, A> {
         self.state
     }
 
-    /// The letters since its last match, while it is live, else none. They are the end of `text`, which is its directory's text.
+    /// The letters since its last match, while it is live, else none. They are the end of `text`,
+    /// which is its directory's text.
     pub fn text_in<'t>(&self, text: &'t [Letter]) -> &'t [Letter]
         ensures { result.now ≡ (heard_in text.now self.now.standing.reading).text }
     {
@@ -155,7 +157,8 @@ impl<F: Finds, A: Allocator + Copy> Subscription<F, A> {
         &text[text.len().saturating_sub(self.offset)..]
     }
 
-    /// How many letters it needs, from the end of its directory's text: those since its last match while it is live, else none.
+    /// How many letters it needs, from the end of its directory's text: those since its last match
+    /// while it is live, else none.
     pub fn live_offset(&self) -> usize
         ensures { result ≡ live_offset self.now.standing.reading }
     {
@@ -166,7 +169,8 @@ impl<F: Finds, A: Allocator + Copy> Subscription<F, A> {
         }
     }
 
-    /// Whether it looks at the next letter that is prepared: it is still live after those that were prepared before.
+    /// Whether it looks at the next letter that is prepared: it is still live after those that were
+    /// prepared before.
     pub fn listens(&self) -> bool
         ensures { result ≡ is_live self.now.prepared.state }
     {
@@ -184,8 +188,9 @@ impl<F: Finds, A: Allocator + Copy> Subscription<F, A> {
         self.prepared.offset = self.offset;
     }
 
-    /// Prepares `letter`, the last one of `text`, and returns the hit that it will give, if any. Only its draft (`prepared`) changes, which is what
-    /// it will have heard; `offset` is how many letters its own text has.
+    /// Prepares `letter`, the last one of `text`, and returns the hit that it will give, if any.
+    /// Only its draft (`prepared`) changes, which is what it will have heard; `offset` is how many
+    /// letters its own text has.
     pub fn prepare_hit(&mut self, text: &[Letter], letter: Letter) -> Result<Option<Hit>, NoMemory>
         requires { live_offset self.old.prepared < length text.now }
         ensures same { self.new.standing ≡ self.old.standing }
@@ -226,7 +231,8 @@ impl<F: Finds, A: Allocator + Copy> Subscription<F, A> {
         Ok(Some(Hit::Matched(letter)))
     }
 
-    /// Exchanges the two drafts: what it will be after the letters that are being prepared, and what after those of the plan.
+    /// Exchanges the two drafts: what it will be after the letters that are being prepared, and
+    /// what after those of the plan.
     pub fn exchange(&mut self)
         ensures same { self.new.standing ≡ self.old.standing }
         ensures prepared { self.new.prepared ≡ self.old.planned }

@@ -1,5 +1,5 @@
-//! All subscriptions of one directory. Each has two drafts of what it will be: after the letters that are being prepared, and after those of a
-//! plan that waits to be committed.
+//! All subscriptions of one directory. Each has two drafts of what it will be: after the letters
+//! that are being prepared, and after those of a plan that waits to be committed.
 ghost use Rattle.std.specs.Prelude.{◌≡◌, ◌<◌, ◌≤◌, IfOk, OnOk, length, map};
 ghost use Rattle.std.specs.List.{filter_map, list_any};
 ghost use Rattle.event_directory.specs.SubscriberList.{is_live};
@@ -25,7 +25,8 @@ pub fn begin_all<F: Finds, A: Allocator + Copy>(subscriptions: &mut [Subscriptio
     }
 }
 
-/// How many letters, from the end of the text, the subscriptions need: none of them needs the letters before these.
+/// How many letters, from the end of the text, the subscriptions need: none of them needs the
+/// letters before these.
 pub fn greatest_offset<F: Finds, A: Allocator + Copy>(subscriptions: &[Subscription<F, A>]) -> usize
     ensures { result ≡ greatest_offset (map standing_of_stored subscriptions.now) }
 {
@@ -45,8 +46,8 @@ pub fn any_listens<F: Finds, A: Allocator + Copy>(subscriptions: &[Subscription<
         .any(|subscription| subscription.listens())
 }
 
-/// Prepares `letter`, the last one of `text`: it is worked out what each subscription will have heard. Returns the hits (matches) that it will
-/// give, in the order of the subscriptions.
+/// Prepares `letter`, the last one of `text`: it is worked out what each subscription will have
+/// heard. Returns the hits (matches) that it will give, in the order of the subscriptions.
 pub fn prepare_all<F: Finds, A: Allocator + Copy>(
     alloc: A,
     subscriptions: &mut [Subscription<F, A>],
@@ -89,7 +90,8 @@ fn exchange_all<F: Finds, A: Allocator + Copy>(subscriptions: &mut [Subscription
     }
 }
 
-/// What was prepared becomes the plan, and nothing is prepared: the drafts are exchanged, and that of the preparation begins anew.
+/// What was prepared becomes the plan, and nothing is prepared: the drafts are exchanged, and that
+/// of the preparation begins anew.
 pub fn plan_all<F: Finds, A: Allocator + Copy>(subscriptions: &mut [Subscription<F, A>])
     ensures same { map standing_of_stored subscriptions.new
         ≡ map standing_of_stored subscriptions.old }
@@ -102,7 +104,8 @@ pub fn plan_all<F: Finds, A: Allocator + Copy>(subscriptions: &mut [Subscription
     begin_all(subscriptions);
 }
 
-/// Hears what was planned: the drafts are exchanged, so that the plan stands as what is prepared, and that is heard.
+/// Hears what was planned: the drafts are exchanged, so that the plan stands as what is prepared,
+/// and that is heard.
 pub fn hear_planned_all<F: Finds, A: Allocator + Copy>(subscriptions: &mut [Subscription<F, A>])
     ensures standing { map standing_of_stored subscriptions.new
         ≡ map planned_standing subscriptions.old }
@@ -113,7 +116,8 @@ pub fn hear_planned_all<F: Finds, A: Allocator + Copy>(subscriptions: &mut [Subs
     commit_all(subscriptions);
 }
 
-/// Hears what was prepared: each subscription becomes what its draft says; what was planned is forgotten.
+/// Hears what was prepared: each subscription becomes what its draft says; what was planned is
+/// forgotten.
 pub fn commit_all<F: Finds, A: Allocator + Copy>(subscriptions: &mut [Subscription<F, A>])
     ensures standing { map standing_of_stored subscriptions.new
         ≡ map prepared_standing subscriptions.old }

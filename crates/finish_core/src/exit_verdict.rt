@@ -16,8 +16,8 @@ pub enum Verdict125 {
     Ordinary,
 }
 
-/// The verdict of a `finish` that ended with this exit: permanent for the exit code 125, else ordinary. Page `servicedir`,
-/// "finish".
+/// The verdict of a `finish` that ended with this exit: permanent for the exit code 125, else
+/// ordinary. Page `servicedir`, "finish".
 pub fn verdict(exit: Exit) -> Verdict125
     ensures { result ≡ verdict_of exit }
 {

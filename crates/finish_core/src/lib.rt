@@ -1,4 +1,5 @@
-//! What follows from how a run ended: the arguments of `finish`, what its own end says, and when the next run is due.
+//! What follows from how a run ended: the arguments of `finish`, what its own end says, and when
+//! the next run is due.
 #![tactic(auto)]
 
 mod arguments;

@@ -4,12 +4,14 @@ ghost use Rattle.finish_core.specs.Restart.{restart_moment};
 
 use s6_events::At;
 
-/// The pause between a death and the restart, in milliseconds, where the service had not been ready for longer than that.
+/// The pause between a death and the restart, in milliseconds, where the service had not been ready
+/// for longer than that.
 const PAUSE: u32 = 1000;
 
-/// The number of the moment, in milliseconds, at which a service whose `finish` is done starts again: `now` where it had been
-/// ready for more than 1000 ms when it died, else the later of `now` and 1000 ms after its death. Page `s6-supervise`,
-/// "Detailed operation"; from which moment the second counts is chosen here.
+/// The number of the moment, in milliseconds, at which a service whose `finish` is done starts
+/// again: `now` where it had been ready for more than 1000 ms when it died, else the later of `now`
+/// and 1000 ms after its death. Page `s6-supervise`, "Detailed operation"; from which moment the
+/// second counts is chosen here.
 pub fn restart_due(ready_since: Option<At>, death: At, now: At) -> u64
     ensures { result ≡ restart_moment ready_since death now }
 {

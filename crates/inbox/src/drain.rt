@@ -60,8 +60,8 @@ impl<C: Channels> Drain<C> {
         self.actor
     }
 
-    /// Takes out the oldest submission, as the actor's input; None where the ring has none. It takes no lock and no memory, and waits for
-    /// nobody.
+    /// Takes out the oldest submission, as the actor's input; None where the ring has none. It
+    /// takes no lock and no memory, and waits for nobody.
     pub fn take_next(&mut self) -> Option<Input<Global>>
         ensures actor { self.new.actor ≡ self.old.actor }
         ensures taken { IfSome result
@@ -81,8 +81,9 @@ impl<C: Channels> Drain<C> {
         }
     }
 
-    /// Takes out the oldest submission as `take_next` does, and puts it into `held`, the place where the caller keeps the input of its next
-    /// step. Returns whether the ring had one; where it had none, `held` is as it was.
+    /// Takes out the oldest submission as `take_next` does, and puts it into `held`, the place
+    /// where the caller keeps the input of its next step. Returns whether the ring had one; where
+    /// it had none, `held` is as it was.
     pub fn take_into(&mut self, held: &mut Option<Input<Global>>) -> bool
         ensures actor { self.new.actor ≡ self.old.actor }
         ensures held { IsTrue result → IsSome held.new }
@@ -98,7 +99,8 @@ impl<C: Channels> Drain<C> {
         if self.consumer.is_empty() {
             return false;
         }
-        // `is_empty` said that the ring has a submission, so one is known to be there, and this can't fail.
+        // `is_empty` said that the ring has a submission, so one is known to be there, and this
+        // can't fail.
         let next = self.consumer.pop_known();
         *held = Some(Input {
             actor: self.actor,
@@ -108,7 +110,8 @@ impl<C: Channels> Drain<C> {
         true
     }
 
-    /// Whether all that the seat of the same actor ever submitted was taken out; None where its ring told nothing when the seat ended (`Finished`).
+    /// Whether all that the seat of the same actor ever submitted was taken out; None where its
+    /// ring told nothing when the seat ended (`Finished`).
     pub fn is_drained(&mut self, finished: &mut Finished<C>) -> Option<bool>
         requires { finished.old.actor ≡ self.old.actor }
         ensures actor { self.new.actor ≡ self.old.actor }

@@ -13,7 +13,8 @@ use std::marker::{Model, PhantomData};
 #[derive(Drop)]
 pub struct Finished<C: Channels> {
     actor: Actor,
-    // The seat's end of the ring, which tells all that was submitted; None where the drain was dropped before the seat ended.
+    // The seat's end of the ring, which tells all that was submitted; None where the drain was
+    // dropped before the seat ended.
     pub(crate) ring: Option<rtrb::Finished<Submission>>,
     channels: PhantomData<C>,
 }

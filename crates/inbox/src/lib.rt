@@ -1,4 +1,5 @@
-//! How actors hand in what happened: through a ring for each, without a lock, so that nobody waits for the tree.
+//! How actors hand in what happened: through a ring for each, without a lock, so that nobody waits
+//! for the tree.
 #![tactic(auto)]
 
 mod drain;

@@ -1,5 +1,5 @@
-//! The rings: one for each actor, of 64 places. A seat hands in at one end of its ring, and gets a ticket with a number, which counts from
-//! 1, or the answer that the ring is full.
+//! The rings: one for each actor, of 64 places. A seat hands in at one end of its ring, and gets a
+//! ticket with a number, which counts from 1, or the answer that the ring is full.
 ghost use Rattle.std.specs.Prelude.{◌≡◌, ◌+◌, ◌-◌, ◌^◌, ◌<◌, ◌≤◌, [], ◌∷◌, ◌++◌, length, map, IsOk, IfOk, IfErr, IfSome};
 ghost use Rattle.rtrb.specs.Ring.{sent, known_free, producer_capacity};
 ghost use Rattle.channel_names.specs.RingName.{producer_ring};
@@ -19,7 +19,8 @@ use tree_core::Act;
 /// How many submissions a ring holds.
 const PLACES: usize = 64;
 
-/// A new ring, through which nothing went yet. A run makes its two ends once it has picked the names of its rings.
+/// A new ring, through which nothing went yet. A run makes its two ends once it has picked the
+/// names of its rings.
 #[derive(Drop)]
 pub struct Ring {
     actor: Actor,
@@ -27,7 +28,8 @@ pub struct Ring {
     consumer: Consumer<Submission>,
 }
 
-// Contracts see whose ring it is, and its name in proofs. Nothing was handed in yet, and all 64 places are known to be free.
+// Contracts see whose ring it is, and its name in proofs. Nothing was handed in yet, and all 64
+// places are known to be free.
 impl Model for Ring {
     ghost use Rattle.std.specs.Prelude.{◌≡◌, []};
     ghost use Rattle.rtrb.specs.Ring.{IsPair, sent, known_free, producer_capacity, received, known_items};
@@ -80,7 +82,8 @@ impl Ring {
     }
 }
 
-/// A new ring for each of `actors` actors, 1 to 16, in the order of their numbers, which begin at 0. `NoMemory` where memory is refused.
+/// A new ring for each of `actors` actors, 1 to 16, in the order of their numbers, which begin at
+/// 0. `NoMemory` where memory is refused.
 pub fn open_rings(alloc: Global, actors: u8) -> Result<Vec<Ring>, NoMemory>
     requires { (1 ≤ actors) × (actors ≤ 16) }
     ensures { IfOk result (λ rings. map (λ r. r.actor) rings.items ≡ numbers_below actors) }
@@ -96,15 +99,16 @@ pub fn open_rings(alloc: Global, actors: u8) -> Result<Vec<Ring>, NoMemory>
     Ok(rings)
 }
 
-/// What an actor gets for a submission; with it the reply is asked for later. The number counts the submissions of its seat, from 1.
+/// What an actor gets for a submission; with it the reply is asked for later. The number counts the
+/// submissions of its seat, from 1.
 #[derive(Clone, Copy, PartialEq, Eq, Debug)]
 pub struct Ticket {
     pub actor: Actor,
     pub number: u64,
 }
 
-/// The ring was full: 64 submissions of the seat wait to be taken. The seat is as it was, and takes the next one as soon as one of
-/// them was taken.
+/// The ring was full: 64 submissions of the seat wait to be taken. The seat is as it was, and takes
+/// the next one as soon as one of them was taken.
 #[derive(Clone, Copy, PartialEq, Eq, Debug, Error)]
 #[error("64 submissions of the seat wait to be taken")]
 pub struct Full;
@@ -145,16 +149,15 @@ impl<C: Channels> Seat<C> {
     {
         Seat {
             actor,
-            // How many submissions were handed in.
             count: 0,
             producer,
-            // It names the run in proofs, and has no bytes.
             channels: PhantomData,
         }
     }
 
-    /// Hands in an act with this moment. `Full` where the ring holds 64 submissions that aren't known to be taken: the act comes back, and
-    /// was not submitted. It takes no lock and no memory, and waits for nobody. Call it only while the seat has taken fewer than 2^63
+    /// Hands in an act with this moment. `Full` where the ring holds 64 submissions that aren't
+    /// known to be taken: the act comes back, and was not submitted. It takes no lock and no
+    /// memory, and waits for nobody. Call it only while the seat has taken fewer than 2^63
     /// submissions; `sent` counts them.
     pub fn submit(&mut self, at: At, act: Act<Global>) -> Result<Ticket, (Act<Global>, Full)>
         requires { length self.old.submitted < 2 ^ 63 }
@@ -195,7 +198,8 @@ impl<C: Channels> Seat<C> {
         self.count
     }
 
-    /// Ends the seat: it submits no more. From what is left of it a drain can tell whether it took all.
+    /// Ends the seat: it submits no more. From what is left of it a drain can tell whether it took
+    /// all.
     pub fn finish(self) -> Finished<C>
         ensures actor { result.actor ≡ self.actor }
         ensures submitted { IfSome result.submitted (λ all. all ≡ self.submitted) }

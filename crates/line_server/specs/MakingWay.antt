@@ -1,42 +1,42 @@
--- Which connection gives its seat to one that knocks.
+-- Which connection gives its slot to one that knocks.
 use Rattle.std.specs.Prelude.{ℕ, ◌-◌, ◌==◌, Bool, true, false, not, List, [], ◌∷◌, Option, Some, None, map, min, nat_le, option_map, position, if◌then◌else◌}
-use Rattle.line_server.specs.declared.making_way.SeatUse.{SeatUse}
-use Rattle.line_server.specs.declared.making_way.SeatUse.TheVariants.{NewSince, IdleSince, Needed, Leaving, Dismissed, LastAnswers, TurnedAway}
+use Rattle.line_server.specs.declared.making_way.SlotUse.{SlotUse}
+use Rattle.line_server.specs.declared.making_way.SlotUse.TheVariants.{NewSince, IdleSince, Needed, Leaving, Dismissed, LastAnswers, TurnedAway}
 use Rattle.line_server.specs.declared.making_way.KnockStage.{KnockStage}
 use Rattle.line_server.specs.declared.making_way.KnockStage.TheVariants.{First, Later, Served}
 use Rattle.line_server.specs.declared.making_way.Occupant.{Occupant}
 
--- for so long after it came a connection keeps its seat, in milliseconds
+-- for so long after it came a connection keeps its slot, in milliseconds
 abbrev pub first_time : ℕ
 first_time = 100
 
 -- since when a connection asks nothing and waits for nothing, if it doesn't
-abbrev pub idle_since : SeatUse → Option ℕ
+abbrev pub idle_since : SlotUse → Option ℕ
 idle_since (NewSince moment) = Some moment
 idle_since (IdleSince moment) = Some moment
 idle_since other = None
 
 -- a connection has ended or made way
-abbrev pub is_leaving : SeatUse → Bool
+abbrev pub is_leaving : SlotUse → Bool
 is_leaving (NewSince moment) = false
 is_leaving (IdleSince moment) = false
 is_leaving Needed = false
 is_leaving other = true
 
 -- since when nothing more is to be posted to a connection that has ended or made way
-abbrev pub last_moment : SeatUse → Option ℕ
+abbrev pub last_moment : SlotUse → Option ℕ
 last_moment (Leaving moment) = Some moment
 last_moment (Dismissed moment) = Some moment
 last_moment (TurnedAway moment) = Some moment
 last_moment other = None
 
 -- its lines are carried out
-abbrev pub takes_lines : SeatUse → Bool
+abbrev pub takes_lines : SlotUse → Bool
 takes_lines (TurnedAway moment) = false
 takes_lines other = true
 
 -- one that makes way before a line of it was read is turned away
-abbrev pub dismissed : ℕ → SeatUse → SeatUse
+abbrev pub dismissed : ℕ → SlotUse → SlotUse
 dismissed now (NewSince moment) = TurnedAway now
 dismissed now other = Dismissed now
 
@@ -47,7 +47,7 @@ may_dismiss is_one_leaving Later = true
 may_dismiss is_one_leaving Served = false
 
 -- one that made way stays so: it is waited for while what it had sent is answered, and until it has read that
-abbrev pub noting : SeatUse → SeatUse → SeatUse
+abbrev pub noting : SlotUse → SlotUse → SlotUse
 noting (Dismissed before) Needed = LastAnswers
 noting (Dismissed before) doing = Dismissed before
 noting LastAnswers (IdleSince moment) = Dismissed moment
@@ -79,12 +79,12 @@ abbrev pub is_number : ℕ → Option ℕ → Bool
 is_number number None = false
 is_number number (Some found) = found == number
 
--- the first seat whose connection is idle since this moment, if there is one
+-- the first slot whose connection is idle since this moment, if there is one
 abbrev pub first_idle_since : Option ℕ → ℕ → List Occupant → Option ℕ
 first_idle_since None now occupants = None
 first_idle_since (Some moment) now occupants = position (λ o. is_number moment (dismissible_since now o)) occupants
 
--- the seat whose connection has been idle for the longest time, of those that may be dismissed
+-- the slot whose connection has been idle for the longest time, of those that may be dismissed
 abbrev pub longest_idle : ℕ → List Occupant → Option ℕ
 longest_idle now occupants = first_idle_since (least_of (map (dismissible_since now) occupants)) now occupants
 

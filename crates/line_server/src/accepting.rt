@@ -1,4 +1,4 @@
-//! The thread that accepts connections, and gives each one of eleven seats, and a mailbox, where texts wait to be written to it.
+//! The thread that accepts connections, and gives each one of eleven slots, and a mailbox.
 use crate::conversing::{converse_at, read_last, write_last};
 use crate::mailbox::Mailbox;
 use crate::server::{Answers, Server};
@@ -16,8 +16,9 @@ const EMFILE: i32 = 24;
 
 const ENFILE: i32 = 23;
 
-/// Accepts and serves connections until `Server::end` is called. When it returns, all of its threads have ended. Where a connection can't be
-/// accepted for want of a descriptor, `want_line` is written on `errors`, once.
+/// Accepts and serves connections until `Server::end` is called. When it returns, all of its
+/// threads have ended. Where a connection can't be accepted for want of a descriptor, `want_line`
+/// is written on `errors`, once.
 pub fn serve<W: Answers + Sync, R: Threads + Wait + Clock + Sync, E: Write>(
     rt: &R,
     server: &Server<W>,
@@ -26,16 +27,17 @@ pub fn serve<W: Answers + Sync, R: Threads + Wait + Clock + Sync, E: Write>(
 ) {
     thread::scope(thread::scope_env(), rt, |scope| {
         if !start_last(scope, rt, server) {
-            // Without both threads, nobody gets the last seat.
-            server.last_seat_reader.end(rt);
+            // Without both threads, nobody gets the last slot.
+            server.last_slot_reader.end(rt);
         }
         // This takes as long as the server lives.
         accept_all(scope, rt, server, errors, want_line);
     });
 }
 
-// Starts the two threads of the last seat, one that reads its connection and one that writes to it. They run from the start, so that a connection
-// can come even where the system has no thread for it. Returns whether both run.
+// Starts the two threads of the last slot, one that reads its connection and one that writes to it.
+// They run from the start, so that a connection can come even where the system has no thread for
+// it. Returns whether both run.
 fn start_last<'s, E, W: Answers + Sync, R: Threads + Wait + Clock + Sync>(
     scope: &Scope<'s, E>,
     rt: &'s R,
@@ -51,12 +53,13 @@ fn start_last<'s, E, W: Answers + Sync, R: Threads + Wait + Clock + Sync>(
         .is_ok();
     if !reads {
         // The thread that writes is ended by the one that reads, which isn't there.
-        server.last_seat_writer.end(rt);
+        server.last_slot_writer.end(rt);
     }
     writes && reads
 }
 
-// Accepts connections until the server ends. The first time that the system has no descriptor for one, `want_line` is written on `errors`.
+// Accepts connections until the server ends. The first time that the system has no descriptor for
+// one, `want_line` is written on `errors`.
 fn accept_all<'s, E, W: Answers + Sync, R: Threads + Wait + Clock + Sync, O: Write>(
     scope: &Scope<'s, E>,
     rt: &'s R,
@@ -70,9 +73,10 @@ fn accept_all<'s, E, W: Answers + Sync, R: Threads + Wait + Clock + Sync, O: Wri
     for stream in server.listener.incoming() {
         match stream {
             Ok(stream) => {
-                // The spare descriptor may have been given up for this connection, and may be had again or not.
+                // The spare descriptor may have been given up for this connection, and may be had
+                // again or not.
                 let has_spare = server.keep_spare(rt);
-                seat_one(scope, rt, server, stream, has_spare);
+                give_slot(scope, rt, server, stream, has_spare);
             }
             Err(error) => {
                 if !is_told && is_want_of_descriptors(&error) {
@@ -93,9 +97,10 @@ fn is_want_of_descriptors(error: &io::Error) -> bool {
     matches!(error.raw_os_error(), Some(EMFILE | ENFILE))
 }
 
-// Gives a connection a seat, if one is free or a connection makes way for it; else sends it `busy` and closes it. Where no spare descriptor is left
-// it gets the last seat or none: so the next one can come once it has its answers.
-fn seat_one<'s, E, W: Answers + Sync, R: Threads + Wait + Clock + Sync>(
+// Gives a connection a slot, if one is free or a connection makes way for it; else sends it `busy`
+// and closes it. Where no spare descriptor is left it gets the last slot or none: so the next one
+// can come once it has its answers.
+fn give_slot<'s, E, W: Answers + Sync, R: Threads + Wait + Clock + Sync>(
     scope: &Scope<'s, E>,
     rt: &'s R,
     server: &'s Server<W>,
@@ -108,7 +113,7 @@ fn seat_one<'s, E, W: Answers + Sync, R: Threads + Wait + Clock + Sync>(
     };
     let mut knock = server.knock(rt, !has_spare);
     for _ in rt.forever() {
-        if is_seated(scope, rt, server, &mailbox, has_spare) {
+        if has_slot(scope, rt, server, &mailbox, has_spare) {
             return;
         }
         if !server.make_way(rt, &mut knock) {
@@ -118,9 +123,9 @@ fn seat_one<'s, E, W: Answers + Sync, R: Threads + Wait + Clock + Sync>(
     let _ = mailbox.stream().write_all(b"busy\n");
 }
 
-// Gives a connection a seat and a thread that reads it; where one of them or a spare descriptor can't be had, the last seat, whose threads run
-// already. Returns whether it has a seat.
-fn is_seated<'s, E, W: Answers + Sync, R: Threads + Wait + Clock + Sync>(
+// Gives a connection a slot and a thread that reads it; where one of them or a spare descriptor
+// can't be had, the last slot, whose threads run already. Returns whether it has a slot.
+fn has_slot<'s, E, W: Answers + Sync, R: Threads + Wait + Clock + Sync>(
     scope: &Scope<'s, E>,
     rt: &'s R,
     server: &'s Server<W>,
@@ -128,16 +133,16 @@ fn is_seated<'s, E, W: Answers + Sync, R: Threads + Wait + Clock + Sync>(
     has_spare: bool,
 ) -> bool {
     if !has_spare {
-        return server.take_last_seat(rt, mailbox);
+        return server.give_last_slot(rt, mailbox);
     }
-    if let Some(seat) = server.take_seat(rt, mailbox) {
-        if start_reader(scope, rt, server, seat) {
+    if let Some(slot) = server.give_free_slot(rt, mailbox) {
+        if start_reader(scope, rt, server, slot) {
             return true;
         }
-        // There is no thread for it, so the seat is given back.
-        server.free_seat(rt, seat);
+        // There is no thread for it, so the slot is given back.
+        server.free_slot(rt, slot);
     }
-    server.take_last_seat(rt, mailbox)
+    server.give_last_slot(rt, mailbox)
 }
 
 // Starts the thread that reads a connection. Returns whether it runs.
@@ -145,10 +150,10 @@ fn start_reader<'s, E, W: Answers + Sync, R: Threads + Wait + Clock + Sync>(
     scope: &Scope<'s, E>,
     rt: &'s R,
     server: &'s Server<W>,
-    seat: usize,
+    slot: usize,
 ) -> bool {
     Builder::new()
         .stack_size(STACK_SIZE)
-        .spawn_scoped(scope, move || converse_at(rt, server, seat))
+        .spawn_scoped(scope, move || converse_at(rt, server, slot))
         .is_ok()
 }

@@ -53,8 +53,9 @@ impl<A: Allocator + Copy> LineBuffer<A> {
         self.bytes.extend_from_slice(more)
     }
 
-    /// Takes the first line out, if it has come whole and has at most 8,192 bytes with its newline, and puts it into `line` without the
-    /// newline; what was in `line` is gone. At any other answer, and where memory is refused, the buffer is as it was.
+    /// Takes the first line out, if it has come whole and has at most 8,192 bytes with its newline,
+    /// and puts it into `line` without the newline; what was in `line` is gone. At any other
+    /// answer, and where memory is refused, the buffer is as it was.
     pub fn next_line(&mut self, line: &mut Vec<u8, A>) -> Result<LineStatus, AllocError>
         ensures whole { result ≡ Ok Whole → IsLine self.old line.new.items self.new }
         ensures part { result ≡ Ok Part → IsPart self.old × (self.new ≡ self.old) }
@@ -86,7 +87,8 @@ fn first_newline(bytes: &[u8]) -> usize
     memchr(b'\n', bytes).unwrap_or(bytes.len())
 }
 
-// Drops the first `count` bytes: moves them behind the others, and cuts them off. The others keep their order.
+// Drops the first `count` bytes: moves them behind the others, and cuts them off. The others keep
+// their order.
 fn drop_front<A: Allocator>(bytes: &mut Vec<u8, A>, count: usize)
     requires { count ≤ length bytes.old.items }
     ensures { bytes.new.items ≡ drop count bytes.old.items }

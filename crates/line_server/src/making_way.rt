@@ -1,62 +1,69 @@
-//! Which connection makes way for a new one, where no seat is free.
+//! Which connection makes way for a new one, where no slot is free.
 ghost use Rattle.std.specs.Prelude.{◌≡◌, Some, map};
 ghost use Rattle.line_server.specs.MakingWay.{idle_since, is_leaving, last_moment, takes_lines, dismissed, noting, may_dismiss, dismissible_since, time_left, lesser, least_of, is_number, first_idle_since, longest_idle, first_chance};
 
-/// For so long after it came a connection keeps its seat, in milliseconds.
+/// For so long after it came a connection keeps its slot, in milliseconds.
 pub const FIRST_TIME: u64 = 100;
 
-/// For so long a connection that has ended or made way may still read its last answers where its seat is wanted, in milliseconds.
+/// For so long a connection that has ended or made way may still read its last answers where its
+/// slot is wanted, in milliseconds.
 pub const LAST_TIME: u64 = 1_000;
 
-/// What the connection of a seat does.
+/// What the connection of a slot does.
 #[derive(Clone, Copy, Debug, PartialEq, Eq)]
-pub enum SeatUse {
-    /// It came at this moment of the system's clock, in milliseconds, and no line of it was read yet.
+pub enum SlotUse {
+    /// It came at this moment of the system's clock, in milliseconds, and no line of it was read
+    /// yet.
     NewSince(u64),
-    /// Since this moment of the system's clock, in milliseconds, it asks nothing, and nothing was written to it.
+    /// Since this moment of the system's clock, in milliseconds, it asks nothing, and nothing was
+    /// written to it.
     IdleSince(u64),
     /// A line of it is being answered, or something is still to be told to it.
     Needed,
-    /// It asks nothing more since this moment, and its seat will be free once it has read its answers.
+    /// It asks nothing more since this moment, and its slot will be free once it has read its
+    /// answers.
     Leaving(u64),
-    /// It made way, and all that it had sent was answered at this moment: its seat will be free once it has read its answers.
+    /// It made way, and all that it had sent was answered at this moment: its slot will be free
+    /// once it has read its answers.
     Dismissed(u64),
     /// It made way, and what it had sent before is being answered.
     LastAnswers,
-    /// It made way at this moment, and no line of it had been read: none is carried out, and it is told `busy`.
+    /// It made way at this moment, and no line of it had been read: none is carried out, and it is
+    /// told `busy`.
     TurnedAway(u64),
 }
 
-impl SeatUse {
+impl SlotUse {
     /// Since when it is idle, if it is.
     pub fn idle_since(&self) -> Option<u64>
         ensures { result ≡ idle_since self.now }
     {
         match self {
-            SeatUse::NewSince(moment) | SeatUse::IdleSince(moment) => Some(*moment),
+            SlotUse::NewSince(moment) | SlotUse::IdleSince(moment) => Some(*moment),
             _ => None,
         }
     }
 
-    /// Whether it has ended or made way, so that its seat will be free.
+    /// Whether it has ended or made way, so that its slot will be free.
     pub fn is_leaving(&self) -> bool
         ensures { result ≡ is_leaving self.now }
     {
         match self {
-            SeatUse::NewSince(_) | SeatUse::IdleSince(_) | SeatUse::Needed => false,
-            SeatUse::Leaving(_)
-            | SeatUse::Dismissed(_)
-            | SeatUse::LastAnswers
-            | SeatUse::TurnedAway(_) => true,
+            SlotUse::NewSince(_) | SlotUse::IdleSince(_) | SlotUse::Needed => false,
+            SlotUse::Leaving(_)
+            | SlotUse::Dismissed(_)
+            | SlotUse::LastAnswers
+            | SlotUse::TurnedAway(_) => true,
         }
     }
 
-    /// Since when nothing more is to be posted to it, if it has ended or made way: a second later it is ended, if its seat is wanted.
+    /// Since when nothing more is to be posted to it, if it has ended or made way: a second later
+    /// it is ended, if its slot is wanted.
     pub fn last_moment(&self) -> Option<u64>
         ensures { result ≡ last_moment self.now }
     {
         match self {
-            SeatUse::Leaving(moment) | SeatUse::Dismissed(moment) | SeatUse::TurnedAway(moment) =>
+            SlotUse::Leaving(moment) | SlotUse::Dismissed(moment) | SlotUse::TurnedAway(moment) =>
                 Some(*moment),
             _ => None,
         }
@@ -66,33 +73,35 @@ impl SeatUse {
     pub fn takes_lines(&self) -> bool
         ensures { result ≡ takes_lines self.now }
     {
-        !matches!(self, SeatUse::TurnedAway(_))
+        !matches!(self, SlotUse::TurnedAway(_))
     }
 
-    /// What it does once it makes way at the moment `now`: one of which no line was read is turned away, so that no wait of it is begun and then lost.
-    pub fn dismissed(self, now: u64) -> SeatUse
+    /// What it does once it makes way at the moment `now`: one of which no line was read is turned
+    /// away, so that no wait of it is begun and then lost.
+    pub fn dismissed(self, now: u64) -> SlotUse
         ensures { result ≡ dismissed now self }
     {
         match self {
-            SeatUse::NewSince(_) => SeatUse::TurnedAway(now),
-            _ => SeatUse::Dismissed(now),
+            SlotUse::NewSince(_) => SlotUse::TurnedAway(now),
+            _ => SlotUse::Dismissed(now),
         }
     }
 
-    /// What it does once that is noted: one that made way stays so, and is waited for while it is answered.
-    pub fn noting(self, doing: SeatUse) -> SeatUse
+    /// What it does once that is noted: one that made way stays so, and is waited for while it is
+    /// answered.
+    pub fn noting(self, doing: SlotUse) -> SlotUse
         ensures { result ≡ noting self doing }
     {
         match (self, doing) {
-            (SeatUse::Dismissed(_), SeatUse::Needed) => SeatUse::LastAnswers,
-            (SeatUse::LastAnswers, SeatUse::IdleSince(moment)) => SeatUse::Dismissed(moment),
-            (SeatUse::Dismissed(_) | SeatUse::LastAnswers | SeatUse::TurnedAway(_), _) => self,
+            (SlotUse::Dismissed(_), SlotUse::Needed) => SlotUse::LastAnswers,
+            (SlotUse::LastAnswers, SlotUse::IdleSince(moment)) => SlotUse::Dismissed(moment),
+            (SlotUse::Dismissed(_) | SlotUse::LastAnswers | SlotUse::TurnedAway(_), _) => self,
             (_, doing) => doing,
         }
     }
 }
 
-/// How far a knock is: a connection that waits for a seat.
+/// How far a knock is: a connection that waits for a slot.
 #[derive(Clone, Copy, Debug, PartialEq, Eq)]
 pub enum KnockStage {
     /// It has just come.
@@ -104,8 +113,8 @@ pub enum KnockStage {
 }
 
 impl KnockStage {
-    /// Whether a connection is to make way for it. `is_one_leaving`: one leaves anyway, for which it waits a moment. Only one makes way for it, also
-    /// where that one takes long to leave.
+    /// Whether a connection is to make way for it. `is_one_leaving`: one leaves anyway, for which
+    /// it waits a moment. Only one makes way for it, also where that one takes long to leave.
     pub fn may_dismiss(self, is_one_leaving: bool) -> bool
         ensures { result ≡ may_dismiss is_one_leaving self }
     {
@@ -117,15 +126,16 @@ impl KnockStage {
     }
 }
 
-/// The connection of a seat: when it came, in milliseconds of the system's clock, and what it does.
+/// The connection of a slot: when it came, in milliseconds of the system's clock, and what it does.
 #[derive(Clone, Copy, Debug, PartialEq, Eq)]
 pub struct Occupant {
     pub came: u64,
-    pub doing: SeatUse,
+    pub doing: SlotUse,
 }
 
 impl Occupant {
-    /// Since when it is idle, if it may be dismissed at the moment `now`: not within the first 100 milliseconds after it came.
+    /// Since when it is idle, if it may be dismissed at the moment `now`: not within the first 100
+    /// milliseconds after it came.
     pub fn dismissible_since(&self, now: u64) -> Option<u64>
         ensures { result ≡ dismissible_since now self.now }
     {
@@ -156,7 +166,8 @@ fn lesser(one: Option<u64>, other: Option<u64>) -> Option<u64>
     }
 }
 
-// Since when the connection is idle that has been for the longest time, of those that may be dismissed; None where none may.
+// Since when the connection is idle that has been for the longest time, of those that may be
+// dismissed; None where none may.
 fn longest_since(occupants: &[Occupant], now: u64) -> Option<u64>
     ensures { result ≡ least_of (map (dismissible_since now) occupants.now) }
 {
@@ -176,7 +187,7 @@ fn is_number(number: u64, found: Option<u64>) -> bool
     }
 }
 
-// The first seat whose connection may be dismissed and is idle since this moment.
+// The first slot whose connection may be dismissed and is idle since this moment.
 fn first_idle_since(occupants: &[Occupant], now: u64, moment: u64) -> Option<usize>
     ensures { result ≡ first_idle_since (Some moment) now occupants.now }
 {
@@ -185,8 +196,8 @@ fn first_idle_since(occupants: &[Occupant], now: u64, moment: u64) -> Option<usi
         .position(|one| is_number(moment, one.dismissible_since(now)))
 }
 
-/// The seat whose connection has been idle for the longest time, of those that may be dismissed at the moment `now`, in milliseconds; None where
-/// none may. Of two that are alike, the first.
+/// The slot whose connection has been idle for the longest time, of those that may be dismissed at
+/// the moment `now`, in milliseconds; None where none may. Of two that are alike, the first.
 pub fn longest_idle(occupants: &[Occupant], now: u64) -> Option<usize>
     ensures { result ≡ longest_idle now occupants.now }
 {
@@ -194,7 +205,8 @@ pub fn longest_idle(occupants: &[Occupant], now: u64) -> Option<usize>
     first_idle_since(occupants, now, moment)
 }
 
-/// After how many milliseconds, from the moment `now` on, the first of the connections that are idle may be dismissed; None where none is idle.
+/// After how many milliseconds, from the moment `now` on, the first of the connections that are
+/// idle may be dismissed; None where none is idle.
 pub fn first_chance(occupants: &[Occupant], now: u64) -> Option<u64>
     ensures { result ≡ first_chance now occupants.now }
 {

@@ -1,4 +1,5 @@
-//! What waits to be written to a connection, in order and up to a limit, at which `mailbox.rt` ends the connection.
+//! What waits to be written to a connection, in order and up to a limit, at which `mailbox.rt` ends
+//! the connection.
 ghost use Rattle.std.specs.Prelude.{◌≡◌, ◌++◌, ◌+◌, ◌<◌, ◌≤◌, [], Err, length, OnOk, OnErr, true, false};
 ghost use Rattle.line_server.specs.Outbox.{outbox_limit};
 ghost use Rattle.line_server.specs.Endings.{ends_connection};
@@ -7,7 +8,8 @@ ghost use Rattle.line_server.specs.declared.outbox.PostFault.TheVariants.{Full, 
 use std::alloc::{AllocError, Allocator};
 use std::marker::Model;
 
-/// The most bytes that wait for a connection. One that reads so slowly that more would wait is closed.
+/// The most bytes that wait for a connection. One that reads so slowly that more would wait is
+/// closed.
 pub const OUTBOX_LIMIT: usize = 1_048_576;
 
 /// Why a text was not posted.
@@ -22,8 +24,9 @@ pub enum PostFault {
 }
 
 impl PostFault {
-    /// Whether the connection has to end, because a text is missing that its reader waits for. Where the outbox was closed before, nothing
-    /// that waits in it is missing, and it is still written.
+    /// Whether the connection has to end, because a text is missing that its reader waits for.
+    /// Where the outbox was closed before, nothing that waits in it is missing, and it is still
+    /// written.
     pub fn ends_connection(self) -> bool
         ensures { result ≡ ends_connection self }
     {
@@ -96,7 +99,8 @@ impl<A: Allocator + Copy> Outbox<A> {
         Ok(())
     }
 
-    /// Moves all that waits into `text`. What was in `text` is gone; its memory serves for what is posted next.
+    /// Moves all that waits into `text`. What was in `text` is gone; its memory serves for what is
+    /// posted next.
     pub fn take_all(&mut self, text: &mut Vec<u8, A>)
         ensures text { text.new.items ≡ self.old.unsent }
         ensures outbox { self.new ≡ record self.old { unsent = [] } }

@@ -6,14 +6,15 @@ use s6_events::NoMemory;
 use std::alloc::Global;
 use tree_core::{Effect, Image, Tree};
 
-/// An effect that holds nothing. `NoMemory` where memory is refused. It is not inlined: else its list of 768 orders would lie on the stack of
-/// whoever calls it, for as long as that call takes.
+/// An effect that holds nothing. `NoMemory` where memory is refused. It is not inlined: else its
+/// list of 768 orders would lie on the stack of whoever calls it, for as long as that call takes.
 #[inline(never)]
 pub fn new_effect(alloc: Global) -> Result<Box<Effect<Global>>, NoMemory> {
     Ok(Box::new(alloc, Effect::new(alloc))?)
 }
 
-/// What is made before a run begins: the image of its tree, a run with no step, and an effect that each step fills anew.
+/// What is made before a run begins: the image of its tree, a run with no step, and an effect that
+/// each step fills anew.
 #[derive(Drop)]
 pub struct Beginning {
     pub opening: Image<Global>,

@@ -1,4 +1,5 @@
-//! The end of a run. A finish is here what is left of a seat that has ended (`inbox::Finished`), and not the finish script of a service.
+//! The end of a run: whether it can be closed, by what its seats left when they were finished
+//! (`inbox::Finished`).
 ghost use Rattle.std.specs.Prelude.{◌≡◌, ◌<◌, ◌⊎◌, ℕ, length, Some, true, false, IfNone, IfSome, IsSome};
 ghost use Rattle.locked_services.specs.Submissions.{AreNumbered, taken_from};
 ghost use Rattle.locked_services.specs.Closing.{AreComplete, AreKnown, AreSameDrains, AreTaken, AreTold, IsInputLeft, finishes_of};
@@ -13,14 +14,16 @@ use tree_core::Tree;
 /// Why a run was not closed.
 #[derive(Clone, Copy, PartialEq, Eq, Debug)]
 pub enum CloseFault {
-    /// There isn't just one finish for each seat, or a seat's ring told nothing of the seat's end. This is looked for first.
+    /// There isn't just one finish for each seat, or a seat's ring told nothing of the seat's end.
+    /// This is looked for first.
     Missing = 1,
     /// An input or an order is still to be done, or the desks aren't just those of the lanes.
     Left = 2,
 }
 
-/// What a run leaves: its tree, how many steps it made, these steps, and the backends of its lanes, in the order of the lanes' numbers. To
-/// drop a long run takes milliseconds, so another thread may do it.
+/// What a run leaves: its tree, how many steps it made, these steps, and the backends of its lanes,
+/// in the order of the lanes' numbers. To drop a long run takes milliseconds, so another thread may
+/// do it.
 #[derive(Drop)]
 pub struct Closed<B: Drop> {
     pub tree: Box<Tree<Global>>,
@@ -55,7 +58,8 @@ fn are_known<C: Channels>(finishes: &Vec<Finished<C>>, seats: usize) -> bool
     true
 }
 
-// Whether each of so many seats has ended, once, and no other one has. What is left of a seat at its end is its finish.
+// Whether each of so many seats has ended, once, and no other one has. What is left of a seat at
+// its end is its finish.
 fn has_one_each<C: Channels>(finishes: &Vec<Finished<C>>, seats: usize) -> bool
     ensures known { result ≡ true → AreKnown seats finishes.now.items }
     ensures one { result ≡ true → (actor : ℕ) → actor < seats
@@ -74,7 +78,8 @@ fn has_one_each<C: Channels>(finishes: &Vec<Finished<C>>, seats: usize) -> bool
     true
 }
 
-// Whether all that this seat submitted was taken; None where its ring told nothing of the seat's end.
+// Whether all that this seat submitted was taken; None where its ring told nothing of the seat's
+// end.
 fn is_drained<C: Channels>(drains: &mut Vec<Drain<C>>, finished: &mut Finished<C>) -> Option<bool>
     requires numbered { AreNumbered drains.old.items }
     requires known { finished.old.actor < length drains.old.items }
@@ -91,7 +96,8 @@ fn is_drained<C: Channels>(drains: &mut Vec<Drain<C>>, finished: &mut Finished<C
     drain.is_drained(finished)
 }
 
-// Whether both are true; `are_drained` asks it of the seats that it looked at before, and of the next one.
+// Whether both are true; `are_drained` asks it of the seats that it looked at before, and of the
+// next one.
 fn both(one: bool, other: bool) -> bool
     ensures yes { result ≡ true → (one ≡ true) × (other ≡ true) }
     ensures no { result ≡ false → (one ≡ false) ⊎ (other ≡ false) }
@@ -99,7 +105,8 @@ fn both(one: bool, other: bool) -> bool
     one && other
 }
 
-// Whether all that these seats submitted was taken; None where a ring told nothing of its seat's end.
+// Whether all that these seats submitted was taken; None where a ring told nothing of its seat's
+// end.
 fn are_drained<C: Channels>(
     drains: &mut Vec<Drain<C>>,
     finishes: &mut Vec<Finished<C>>,
@@ -124,8 +131,9 @@ fn are_drained<C: Channels>(
     Some(all)
 }
 
-/// Why a run with these rings can't be closed with these finishes, by its inputs alone. `Missing`: there isn't just one finish for each
-/// ring, or a ring told nothing of its seat's end. `Left`: an input is still in a ring, or one is held. None where neither is so.
+/// Why a run with these rings can't be closed with these finishes, by its inputs alone. `Missing`:
+/// there isn't just one finish for each ring, or a ring told nothing of its seat's end. `Left`: an
+/// input is still in a ring, or one is held. None where neither is so.
 pub fn input_fault<C: Channels>(
     drains: &mut Vec<Drain<C>>,
     finishes: &mut Vec<Finished<C>>,

@@ -1,4 +1,6 @@
-//! A tree that several threads run: what one lock guards, and its promises.
+//! A tree that several threads run: what one lock guards, and its promises. A finish is what is
+//! left of a seat that has ended. A lane is a ring of orders to one backend, which is asked them at
+//! the lane's desk.
 #![tactic(auto)]
 
 mod beginning;

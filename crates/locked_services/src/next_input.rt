@@ -1,4 +1,5 @@
-//! Which input comes next. A drain is the tree's end of an actor's ring, into which the actor submits.
+//! Which input comes next. A drain is the tree's end of an actor's ring, into which the actor
+//! submits.
 ghost use Rattle.std.specs.Prelude.{◌≡◌, None, IsSome, IsTrue, IsFalse, option_to_list};
 ghost use Rattle.locked_services.specs.Submissions.{AreNumbered, Give, NoneSeen};
 
@@ -7,7 +8,8 @@ use inbox::Drain;
 use std::alloc::Global;
 use tree_core::Input;
 
-/// Takes the oldest submission of the first ring that gives one, and puts it into `held`, which is None before. Returns whether a ring gave one.
+/// Takes the oldest submission of the first ring that gives one, and puts it into `held`, which is
+/// None before. Returns whether a ring gave one.
 pub fn take_next<C: Channels>(drains: &mut Vec<Drain<C>>, held: &mut Option<Input<Global>>) -> bool
     requires numbered { AreNumbered drains.old.items }
     requires free { held.old ≡ None }

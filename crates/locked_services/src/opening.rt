@@ -8,14 +8,16 @@ use inbox::{Drain, Ring, Seat};
 use s6_events::NoMemory;
 use std::alloc::Global;
 
-/// A seat for each actor, and the tree's ends of their rings, both in the order of the actors' numbers.
+/// A seat for each actor, and the tree's ends of their rings, both in the order of the actors'
+/// numbers.
 #[derive(Drop)]
 pub struct SeatEnds<C: Channels> {
     pub seats: Vec<Seat<C>>,
     pub drains: Vec<Drain<C>>,
 }
 
-/// The ends of these new rings, whose names are those that `C` gives to the rings of its seats. `NoMemory` where memory is refused.
+/// The ends of these new rings, whose names are those that `C` gives to the rings of its seats.
+/// `NoMemory` where memory is refused.
 pub fn seat_ends<C: Channels>(alloc: Global, rings: Vec<Ring>) -> Result<SeatEnds<C>, NoMemory>
     requires { AreNamed C.seat_ring rings.items }
     ensures numbered { IfOk result (λ ends. AreNumbered ends.drains.items) }

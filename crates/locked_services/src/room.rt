@@ -37,8 +37,8 @@ use std::marker::{Brand, Model};
 use std::sync::Wait;
 use tree_core::{Effect, Reply, Tree};
 
-/// What one lock guards: the running tree, the board on which it is published, whether its present state was published, and, in proofs
-/// alone, the history of the inputs that it has done.
+/// What one lock guards: the running tree, the board on which it is published, whether its present
+/// state was published, and, in proofs alone, the history of the inputs that it has done.
 #[derive(Drop)]
 pub struct Room<C: Channels + Lanes, D: Board<C>> {
     running: RunningTree<C>,
@@ -47,7 +47,8 @@ pub struct Room<C: Channels + Lanes, D: Board<C>> {
     history: WholeHistory<C>,
 }
 
-// For proofs: adds to the history all inputs that the running tree has done since. The type `N` names them all.
+// For proofs: adds to the history all inputs that the running tree has done since. The type `N`
+// names them all.
 fn keep<N: Whole, C: Channels + Lanes, R: Wait>(
     rt: &R,
     history: &mut WholeHistory<C>,
@@ -87,7 +88,8 @@ impl<C: Channels + Lanes, D: Board<C>> Model for Room<C, D> {
 }
 
 impl<C: Channels + Lanes, D: Board<C>> Room<C, D> {
-    /// A room of this running tree, which has made no step. Its present state is the only one that was published on the board.
+    /// A room of this running tree, which has made no step. Its present state is the only one that
+    /// was published on the board.
     pub fn begin(running: RunningTree<C>, board: D, history: WholeHistory<C>) -> Room<C, D>
         requires history { history ≡ [] }
         requires opening { running.opening ≡ C.opening }
@@ -96,7 +98,8 @@ impl<C: Channels + Lanes, D: Board<C>> Room<C, D> {
             D.shots board ≡ shot_of (end_of m running.steps) ∷ [] }
         ensures { result ≡ record { running = running; shots = D.shots board; is_shown = true } }
     {
-        // For the proof alone: the clauses of `RunningTree::steps` say that there is a machine for which its tree stands.
+        // For the proof alone: the clauses of `RunningTree::steps` say that there is a machine for
+        // which its tree stands.
         let _steps = running.steps();
         Room {
             running,
@@ -123,7 +126,8 @@ impl<C: Channels + Lanes, D: Board<C>> Room<C, D> {
         self.history.tell()
     }
 
-    /// Makes one step, of the input that is held or, where none is held, of one that it takes from the rings.
+    /// Makes one step, of the input that is held or, where none is held, of one that it takes from
+    /// the rings.
     pub fn step_one<R: Wait>(&mut self, rt: &R) -> Stop
         ensures opening { self.new.running.opening ≡ self.old.running.opening }
         ensures shots { self.new.shots ≡ self.old.shots }
@@ -150,7 +154,8 @@ impl<C: Channels + Lanes, D: Board<C>> Room<C, D> {
         stop
     }
 
-    /// Publishes the present state. `NoMemory` where memory is refused: the board is then as it was.
+    /// Publishes the present state. `NoMemory` where memory is refused: the board is then as it
+    /// was.
     pub fn publish(&mut self) -> Result<(), NoMemory>
         ensures running { self.new.running ≡ self.old.running }
         ensures added { OnOk result ((m : Machine) → StandsFor self.old.running.opening m →
@@ -165,8 +170,8 @@ impl<C: Channels + Lanes, D: Board<C>> Room<C, D> {
         Ok(())
     }
 
-    /// All shots that were published so far, for a reader to learn: the first shows the state with which the run began, and each later one
-    /// a state that it came to.
+    /// All shots that were published so far, for a reader to learn: the first shows the state with
+    /// which the run began, and each later one a state that it came to.
     pub fn tell(&self) -> Told<C>
         ensures shots { result ≡ self.now.shots }
         ensures rising { NeverFalls result }
@@ -174,7 +179,8 @@ impl<C: Channels + Lanes, D: Board<C>> Room<C, D> {
         self.board.tell()
     }
 
-    /// The reply to the input of a ticket; None where its step isn't made yet. `NoMemory` where memory is refused.
+    /// The reply to the input of a ticket; None where its step isn't made yet. `NoMemory` where
+    /// memory is refused.
     pub fn reply(&self, ticket: Ticket) -> Result<Option<Reply<Global>>, NoMemory>
         ensures { IfOk result
             (λ reply. reply ≡ reply_at ticket.actor ticket.number self.now.running.steps) }
@@ -182,7 +188,8 @@ impl<C: Channels + Lanes, D: Board<C>> Room<C, D> {
         self.running.reply(ticket)
     }
 
-    /// All that step `number` gave, counted from 1; None where there is no such step. `NoMemory` where memory is refused.
+    /// All that step `number` gave, counted from 1; None where there is no such step. `NoMemory`
+    /// where memory is refused.
     pub fn effect(&self, number: u64) -> Result<Option<Effect<Global>>, NoMemory>
         ensures { IfOk result (λ effect. option_map (λ e. outcome_of e) effect
             ≡ outcome_at number self.now.running.steps) }
@@ -190,9 +197,10 @@ impl<C: Channels + Lanes, D: Board<C>> Room<C, D> {
         self.running.effect(number)
     }
 
-    /// Fills an effect with all that step `number` gave, counted from 1, and returns whose input it took and when that was handed in; what
-    /// the effect held is gone. None where there is no such step: nothing is filled in. `NoMemory` where memory is refused: the effect may
-    /// then be filled in part.
+    /// Fills an effect with all that step `number` gave, counted from 1, and returns whose input it
+    /// took and when that was handed in; what the effect held is gone. None where there is no such
+    /// step: nothing is filled in. `NoMemory` where memory is refused: the effect may then be
+    /// filled in part.
     pub fn step(
         &self,
         number: u64,
@@ -218,16 +226,18 @@ impl<C: Channels + Lanes, D: Board<C>> Room<C, D> {
         self.running.actor(number)
     }
 
-    /// The moment at which the input of step `number` was handed in, counted from 1; None where there is no such step.
+    /// The moment at which the input of step `number` was handed in, counted from 1; None where
+    /// there is no such step.
     pub fn moment(&self, number: u64) -> Option<At>
         ensures { result ≡ moment_at number self.now.running.steps }
     {
         self.running.moment(number)
     }
 
-    /// Writes the run as a recorded script: the head line, if `head`, and then for each step the line of its input and that of its reply.
-    /// Returns how many steps these are. The writer is not flushed. Where each run goes on from the one before, and only the first is
-    /// written with the head line, their texts in a row are one script (`laws::recording`).
+    /// Writes the run as a recorded script: the head line, if `head`, and then for each step the
+    /// line of its input and that of its reply. Returns how many steps these are. The writer is not
+    /// flushed. Where each run goes on from the one before, and only the first is written with the
+    /// head line, their texts in a row are one script (`laws::recording`).
     pub fn write_run<W: Write>(&self, head: bool, writer: &mut W) -> Result<u64, RunFault>
         ensures ok { IfOk result (λ count. IsWritten count head self.now.running.steps
             (W.contents writer.old) (W.contents writer.new)) }
@@ -237,10 +247,12 @@ impl<C: Channels + Lanes, D: Board<C>> Room<C, D> {
         self.running.write_run(head, writer)
     }
 
-    /// How many steps this run has. Many callers want only its clause `sound`, which says for their proofs what holds at every moment. The
-    /// steps are a legal history from each machine for which the first tree stood, and the tree stands for its end. Each actor's steps, and
-    /// then the held input if it is the actor's, are what its ring gave. Each lane was sent its orders. Each shot shows a state of this
-    /// history: the first shows the one with which it began, and none is older than the one before.
+    /// How many steps this run has. Many callers want only its clause `sound`, which says for their
+    /// proofs what holds at every moment. The steps are a legal history from each machine for which
+    /// the first tree stood, and the tree stands for its end. Each actor's steps, and then the held
+    /// input if it is the actor's, are what its ring gave. Each lane was sent its orders. Each shot
+    /// shows a state of this history: the first shows the one with which it began, and none is
+    /// older than the one before.
     pub fn steps(&self) -> usize
         ensures count { result ≡ length self.now.running.steps }
         ensures sound { IsSoundHistory C.opening self.now }
@@ -275,9 +287,10 @@ impl<C: Channels + Lanes, D: Board<C>> Room<C, D> {
         driven
     }
 
-    /// Makes at most `most` steps, and then publishes the state, if it made any. Where an earlier drive could not publish, this one
-    /// publishes first; if memory for that is refused, it makes no step. Where the state can't be published, the answer is `NoMemory`, and
-    /// the steps that were made stay.
+    /// Makes at most `most` steps, and then publishes the state, if it made any. Where an earlier
+    /// drive could not publish, this one publishes first; if memory for that is refused, it makes
+    /// no step. Where the state can't be published, the answer is `NoMemory`, and the steps that
+    /// were made stay.
     pub fn drive<R: Wait>(&mut self, rt: &R, most: u64) -> Driven
         ensures opening { self.new.running.opening ≡ self.old.running.opening }
         ensures steps { Grows result.steps self.old.running.steps self.new.running.steps }
@@ -320,7 +333,8 @@ impl<C: Channels + Lanes, D: Board<C>> Room<C, D> {
         self.is_shown
     }
 
-    /// Whether the tree has ended: it is closing, and the supervisor of each service in the tree has ended.
+    /// Whether the tree has ended: it is closing, and the supervisor of each service in the tree
+    /// has ended.
     pub fn ended(&self) -> bool
         ensures { (m : Machine) → StandsFor self.now.running.opening m
             → result ≡ has_ended (end_of m self.now.running.steps) }
@@ -328,7 +342,8 @@ impl<C: Channels + Lanes, D: Board<C>> Room<C, D> {
         self.running.ended()
     }
 
-    /// The next moment, in milliseconds, to which a timer or a deadline is set; None where there is none.
+    /// The next moment, in milliseconds, to which a timer or a deadline is set; None where there is
+    /// none.
     pub fn next_due(&self) -> Option<u64>
         ensures { (m : Machine) → StandsFor self.now.running.opening m
             → result ≡ next_due (end_of m self.now.running.steps) }
@@ -336,8 +351,7 @@ impl<C: Channels + Lanes, D: Board<C>> Room<C, D> {
         self.running.next_due()
     }
 
-    // Why the run can't be closed with these desks and finishes; None where it can be. A finish is what is left of a seat that has ended. At a
-    // lane's desk its backend is asked the orders.
+    // Why the run can't be closed with these desks and finishes; None where it can be.
     fn close_fault<B: Backend>(
         &mut self,
         desks: &mut Vec<Desk<B, C>>,
@@ -368,10 +382,11 @@ impl<C: Channels + Lanes, D: Board<C>> Room<C, D> {
         running.into_parts()
     }
 
-    /// Closes the run, where there is just one finish for each seat, all that was submitted was done, and all orders were asked. `desks`
-    /// are those of the lanes, in the order of the lanes' numbers; `backends` is an empty list with room for the desks' backends. At a
-    /// fault all comes back as it was, except that more may have been seen of what is in the rings. It takes no memory. A finish is what is left of
-    /// a seat that has ended.
+    /// Closes the run, where there is just one finish for each seat, all that was submitted was
+    /// done, and all orders were asked. `desks` are those of the lanes, in the order of the lanes'
+    /// numbers; `backends` is an empty list with room for the desks' backends. At a fault all comes
+    /// back as it was, except that more may have been seen of what is in the rings. It takes no
+    /// memory.
     pub fn close<B: Backend>(
         self,
         desks: Vec<Desk<B, C>>,

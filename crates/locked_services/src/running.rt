@@ -35,8 +35,9 @@ use std::marker::Model;
 use step_codes::{KeptInput, told_of};
 use tree_core::{Effect, Image, Input, ORDER_LIMIT, Reply, Tree};
 
-/// A tree with its run so far, the ends of the rings that it takes inputs from, an input that was taken and isn't done, and the lanes
-/// that it sends orders into. Its invariant is what is promised of a run at every moment.
+/// A tree with its run so far, the ends of the rings that it takes inputs from, an input that was
+/// taken and isn't done, and the lanes that it sends orders into. Its invariant is what is promised
+/// of a run at every moment.
 #[derive(Drop)]
 pub struct RunningTree<C: Channels + Lanes> {
     // Gives memory to later calls, such as those that read replies or rows.
@@ -45,7 +46,8 @@ pub struct RunningTree<C: Channels + Lanes> {
     opening: Image<Global>,
     tree: Box<Tree<Global>>,
     run: Run,
-    // Filled anew by each step: its list of orders is large, and to make a new one would cost more than most steps do.
+    // Filled anew by each step: its list of orders is large, and to make a new one would cost more
+    // than most steps do.
     effect: Box<Effect<Global>>,
     drains: Vec<Drain<C>>,
     held: Option<Input<Global>>,
@@ -99,7 +101,8 @@ impl<C: Channels + Lanes> RunningTree<C> {
             run,
             effect,
         } = beginning;
-        // For the proof alone: the contract of `now` says that there is a machine for which the tree stands.
+        // For the proof alone: the contract of `now` says that there is a machine for which the
+        // tree stands.
         let _clock = tree.now();
         RunningTree {
             alloc,
@@ -108,13 +111,13 @@ impl<C: Channels + Lanes> RunningTree<C> {
             run,
             effect,
             drains,
-            // The input that was taken from a ring and whose step is not made yet: none.
             held: None,
             lanes,
         }
     }
 
-    // Takes an input from the rings into `held`, the input of the next step, if none is there. Returns whether one is there now.
+    // Takes an input from the rings into `held`, the input of the next step, if none is there.
+    // Returns whether one is there now.
     fn fetch(&mut self) -> bool
         ensures opening { self.new.opening ≡ self.old.opening }
         ensures tree { self.new.tree ≡ self.old.tree }
@@ -133,7 +136,8 @@ impl<C: Channels + Lanes> RunningTree<C> {
         take_next(&mut self.drains, &mut self.held)
     }
 
-    // The least lane, a ring of orders to a backend, that may have no room for the orders of a step; None where each has room.
+    // The least lane, a ring of orders to a backend, that may have no room for the orders of a
+    // step; None where each has room.
     fn blocked(&mut self) -> Option<usize>
         ensures opening { self.new.opening ≡ self.old.opening }
         ensures tree { self.new.tree ≡ self.old.tree }
@@ -146,8 +150,8 @@ impl<C: Channels + Lanes> RunningTree<C> {
         blocked_lane(&mut self.lanes, ORDER_LIMIT)
     }
 
-    // Makes the step of the input that is held, which a record can keep as `kept`. `NoMemory` where memory is refused: the input is then
-    // still held, and the tree and the steps are as they were.
+    // Makes the step of the input that is held, which a record can keep as `kept`. `NoMemory` where
+    // memory is refused: the input is then still held, and the tree and the steps are as they were.
     #[inline(always)]
     fn make_kept<I: KeptInput>(&mut self, kept: I) -> Result<(), NoMemory>
         requires held { self.old.held ≡ Some (I.input kept) }
@@ -172,14 +176,16 @@ impl<C: Channels + Lanes> RunningTree<C> {
         self.tree.apply_in_place(input, effect)?;
         // The input is done.
         self.held = None;
-        // For the proof alone: the contract of `len` says that there are at most `ORDER_LIMIT` orders, for which each lane has room.
+        // For the proof alone: the contract of `len` says that there are at most `ORDER_LIMIT`
+        // orders, for which each lane has room.
         let _count = effect.orders.len();
         send_all(&mut self.lanes, effect.orders.as_slice());
         self.run.add(kept, effect);
         Ok(())
     }
 
-    // Makes the step of the input that is held, of any kind. It is not inlined, since most inputs are ticks and reports.
+    // Makes the step of the input that is held, of any kind. It is not inlined, since most inputs
+    // are ticks and reports.
     #[inline(never)]
     fn make_any(&mut self) -> Result<(), NoMemory>
         requires held { IsSome self.old.held }
@@ -202,8 +208,8 @@ impl<C: Channels + Lanes> RunningTree<C> {
         self.make_kept(plain)
     }
 
-    // Makes the step of the input that is held. `NoMemory` where memory is refused: the input is then still held, and the tree and the
-    // steps are as they were.
+    // Makes the step of the input that is held. `NoMemory` where memory is refused: the input is
+    // then still held, and the tree and the steps are as they were.
     #[inline(always)]
     fn make_step(&mut self) -> Result<(), NoMemory>
         requires held { IsSome self.old.held }
@@ -228,8 +234,9 @@ impl<C: Channels + Lanes> RunningTree<C> {
         }
     }
 
-    /// Makes one step, of the input that is held or, where none is held, of one that it takes from the rings. Before that it looks for what
-    /// prevents a step, in this order: a full run, a lane that may have no room, no input.
+    /// Makes one step, of the input that is held or, where none is held, of one that it takes from
+    /// the rings. Before that it looks for what prevents a step, in this order: a full run, a lane
+    /// that may have no room, no input.
     pub fn step_one(&mut self) -> Stop
         ensures opening { self.new.opening ≡ self.old.opening }
         ensures done { result ≡ Done → (s : RunStep) × (self.new.steps ≡ self.old.steps ++ s ∷ [])
@@ -298,7 +305,8 @@ impl<C: Channels + Lanes> RunningTree<C> {
         self.run.len()
     }
 
-    /// The present state, to be published: the rows of all services, and how many steps the tree has made. `NoMemory` where memory is refused.
+    /// The present state, to be published: the rows of all services, and how many steps the tree
+    /// has made. `NoMemory` where memory is refused.
     pub fn rows(&self) -> Result<StandingRows<Global>, NoMemory>
         ensures begins { (m : Machine) × StandsFor self.now.opening m }
         ensures rows { IfOk result (λ rows. (m : Machine) → StandsFor self.now.opening m →
@@ -312,7 +320,8 @@ impl<C: Channels + Lanes> RunningTree<C> {
         Ok(StandingRows::new(at, rows))
     }
 
-    /// The reply to the input of a ticket; None where its step isn't made yet. `NoMemory` where memory is refused.
+    /// The reply to the input of a ticket; None where its step isn't made yet. `NoMemory` where
+    /// memory is refused.
     pub fn reply(&self, ticket: Ticket) -> Result<Option<Reply<Global>>, NoMemory>
         ensures { IfOk result
             (λ reply. reply ≡ reply_at ticket.actor ticket.number self.now.steps) }
@@ -320,7 +329,8 @@ impl<C: Channels + Lanes> RunningTree<C> {
         self.run.reply(self.alloc, ticket.actor, ticket.number)
     }
 
-    /// All that step `number` gave, counted from 1; None where there is no such step. `NoMemory` where memory is refused.
+    /// All that step `number` gave, counted from 1; None where there is no such step. `NoMemory`
+    /// where memory is refused.
     pub fn effect(&self, number: u64) -> Result<Option<Effect<Global>>, NoMemory>
         ensures { IfOk result
             (λ effect. option_map (λ e. outcome_of e) effect ≡ outcome_at number self.now.steps) }
@@ -343,7 +353,8 @@ impl<C: Channels + Lanes> RunningTree<C> {
         self.run.actor(number)
     }
 
-    /// The moment at which the input of step `number` was handed in, counted from 1; None where there is no such step.
+    /// The moment at which the input of step `number` was handed in, counted from 1; None where
+    /// there is no such step.
     pub fn moment(&self, number: u64) -> Option<At>
         ensures { result ≡ moment_at number self.now.steps }
     {
@@ -360,8 +371,8 @@ impl<C: Channels + Lanes> RunningTree<C> {
         self.run.write(self.alloc, head, writer)
     }
 
-    // Why the run can't be closed with these finishes, by its inputs alone; None where these allow it. A finish is what is left of a seat that has
-    // ended.
+    // Why the run can't be closed with these finishes, by its inputs alone; None where these allow
+    // it.
     fn input_fault(&mut self, finishes: &mut Vec<Finished<C>>) -> Option<CloseFault>
         ensures same { IsSameRunning self.old self.new }
         ensures lanes { self.new.lanes ≡ self.old.lanes }
@@ -379,8 +390,8 @@ impl<C: Channels + Lanes> RunningTree<C> {
         input_fault(&mut self.drains, finishes, is_held)
     }
 
-    // Whether the desks are just those of the lanes, in the order of their numbers, and each backend was asked all orders of its lane. At a lane's
-    // desk its backend is asked the orders.
+    // Whether the desks are just those of the lanes, in the order of their numbers, and each
+    // backend was asked all orders of its lane.
     fn is_served<B: Backend>(&mut self, desks: &mut Vec<Desk<B, C>>) -> bool
         ensures same { IsSameRunning self.old self.new }
         ensures desks { AreSameDesks desks.old.items desks.new.items }
@@ -392,8 +403,8 @@ impl<C: Channels + Lanes> RunningTree<C> {
         are_served(&mut self.lanes, desks)
     }
 
-    /// Why the run can't be closed with these desks and finishes; None where it can be. Missing finishes are looked for first. A finish is what is
-    /// left of a seat that has ended. At a lane's desk its backend is asked the orders.
+    /// Why the run can't be closed with these desks and finishes; None where it can be. Missing
+    /// finishes are looked for first.
     pub fn close_fault<B: Backend>(
         &mut self,
         desks: &mut Vec<Desk<B, C>>,
@@ -430,7 +441,8 @@ impl<C: Channels + Lanes> RunningTree<C> {
         (tree, run)
     }
 
-    /// Whether the tree has ended: it is closing, and the supervisor of each service in the tree has ended.
+    /// Whether the tree has ended: it is closing, and the supervisor of each service in the tree
+    /// has ended.
     pub fn ended(&self) -> bool
         ensures { (m : Machine) → StandsFor self.now.opening m
             → result ≡ has_ended (end_of m self.now.steps) }
@@ -438,7 +450,8 @@ impl<C: Channels + Lanes> RunningTree<C> {
         self.tree.ended()
     }
 
-    /// The next moment, in milliseconds, to which a timer or a deadline is set; None where there is none.
+    /// The next moment, in milliseconds, to which a timer or a deadline is set; None where there is
+    /// none.
     pub fn next_due(&self) -> Option<u64>
         ensures { (m : Machine) → StandsFor self.now.opening m
             → result ≡ next_due (end_of m self.now.steps) }

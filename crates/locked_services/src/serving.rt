@@ -1,11 +1,11 @@
-//! Whether all orders of a run were asked; and the backends, taken from their desks. A lane is a ring of orders to one backend, which starts and
-//! signals programs; the backend is asked them at the lane's desk.
+//! Whether all orders of a run were asked; and the backends, taken from their desks.
 ghost use Rattle.std.specs.Prelude.{◌≡◌, ◌≤◌, [], length, map, Some, true, false, vec_capacity};
 ghost use Rattle.locked_services.specs.Closing.{AreSameDesks, AreSameLanes, AreServed, IsServed, IsOrderLeft};
 
 use order_lanes::{Backend, Desk, Lane, Lanes};
 
-// Whether the lane and the desk both have this number, and the desk's backend was asked all that was ever sent into the lane.
+// Whether the lane and the desk both have this number, and the desk's backend was asked all that
+// was ever sent into the lane.
 fn is_served<B: Backend, L: Lanes>(number: usize, lane: &mut Lane<L>, desk: &mut Desk<B, L>) -> bool
     ensures lane { lane.new ≡ record lane.old { free = lane.new.free } }
     ensures desk { desk.new ≡ record desk.old { seen = desk.new.seen } }
@@ -20,8 +20,8 @@ fn is_served<B: Backend, L: Lanes>(number: usize, lane: &mut Lane<L>, desk: &mut
     desk.is_done(lane)
 }
 
-/// Whether the desks are just those of the lanes, in the order of their numbers, and each backend was asked all that was ever sent into its
-/// lane.
+/// Whether the desks are just those of the lanes, in the order of their numbers, and each backend
+/// was asked all that was ever sent into its lane.
 pub fn are_served<B: Backend, L: Lanes>(
     lanes: &mut Vec<Lane<L>>,
     desks: &mut Vec<Desk<B, L>>,

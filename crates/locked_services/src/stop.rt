@@ -7,11 +7,13 @@ pub enum Stop {
     Done,
     /// No input is held, and no ring gave one.
     Idle,
-    /// This lane may have no room for the orders of a step; it is the least such lane. No input was taken.
+    /// This lane may have no room for the orders of a step; it is the least such lane. No input was
+    /// taken.
     Blocked(usize),
     /// The run has as many steps as a run may have. No input was taken.
     RunFull,
-    /// Memory was refused. The tree and its run are as they were. The input is held, and is the next one tried.
+    /// Memory was refused. The tree and its run are as they were. The input is held, and is the
+    /// next one tried.
     NoMemory,
 }
 
@@ -26,7 +28,8 @@ pub enum DriveStop {
     Blocked(usize),
     /// The run has as many steps as a run may have.
     RunFull,
-    /// Memory was refused: for a step, or for publishing the state before the first step or after the last.
+    /// Memory was refused: for a step, or for publishing the state before the first step or after
+    /// the last.
     NoMemory,
 }
 

@@ -9,7 +9,8 @@ pub fn now(clock: &impl Clock) -> Result<Instant, Fault> {
     Instant::now(clock).map_err(|_| Fault::NoClock)
 }
 
-// Writes a line of figures about `what`: how many steps there were, how long they took (`micros`), and so how many there are in a second.
+// Writes a line of figures about `what`: how many steps there were, how long they took (`micros`),
+// and so how many there are in a second.
 fn write_figures(output: &mut impl Write, what: &str, load: Load, micros: u128) -> io::Result<()> {
     let (seats, all, millis) = (load.seats, load.all(), micros / 1000);
     let a_second = u128::from(all) * 1_000_000 / micros.max(1);

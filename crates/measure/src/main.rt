@@ -18,7 +18,7 @@ use std::process::ExitCode;
 use std::sync::Wait;
 use std::time::Clock;
 use tree_steps::apply_all;
-use words::{HELP, Load, USAGE, Words, read_words};
+use words::{AskedFigures, HELP, Load, USAGE, read_words};
 
 // The steps of a tree alone.
 fn measure_tree(
@@ -53,12 +53,12 @@ fn write_help(output: &mut impl Write) -> Result<(), Fault> {
 fn run<R: Wait + Clock>(
     rt: &R,
     alloc: Global,
-    words: Words,
+    words: AskedFigures,
     output: &mut impl Write,
 ) -> Result<(), Fault> {
     match words {
-        Words::Help => write_help(output),
-        Words::Steps(load) => {
+        AskedFigures::Help => write_help(output),
+        AskedFigures::Steps(load) => {
             measure_tree(rt, alloc, load, output)?;
             measure_office(rt, alloc, load, output)
         }

@@ -30,8 +30,8 @@ fn one_taker(alloc: Global) -> Result<Vec<Taker>, NoMemory> {
     Ok(backends)
 }
 
-/// The office of a new tree, with one lane whose backend takes each order, takes the scan and then all acts, which one thread submits and
-/// drives in turn.
+/// The office of a new tree, with one lane whose backend takes each order, takes the scan and then
+/// all acts, which one thread submits and drives in turn.
 pub fn drive_all<R: Wait>(rt: &R, alloc: Global, load: Load) -> Result<(), Fault> {
     match one_taker(alloc) {
         Ok(backends) => drive_lanes(rt, alloc, backends, load),
@@ -160,7 +160,8 @@ fn submit<C: Channels>(seat: &mut Seat<C>, input: Input<Global>) -> Result<(), F
     Ok(())
 }
 
-// Makes so many steps; where a lane has no room for more orders, its backend is asked all that it holds.
+// Makes so many steps; where a lane has no room for more orders, its backend is asked all that it
+// holds.
 fn drive<C: Channels + Lanes, D: Board<C>, B: Backend, R: Wait>(
     rt: &R,
     office: &Office<C, D, B>,

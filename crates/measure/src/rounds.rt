@@ -6,7 +6,8 @@ use servicedir::Config;
 use std::alloc::Global;
 use tree_core::{Act, Entry, Input, Listing};
 
-/// How many acts a seat submits before all that was submitted is done: 21 runs of its service, which a ring holds.
+/// How many acts a seat submits before all that was submitted is done: 21 runs of its service,
+/// which a ring holds.
 pub const ROUND: u32 = 63;
 
 // What a look at the directory finds of the service of this seat.
@@ -47,7 +48,8 @@ fn runs_before(load: Load, seat: u8, number: u32) -> u64 {
         .saturating_add(u64::from(number % ROUND / 3))
 }
 
-/// The input of this number of a seat. A run takes 300 milliseconds, and a second after it the timer goes off.
+/// The input of this number of a seat. A run takes 300 milliseconds, and a second after it the
+/// timer goes off.
 pub fn input_of(load: Load, actor: Actor, number: u32) -> Input<Global> {
     let sid = Sid(u64::from(actor.number()).saturating_add(1));
     let generation = u64::from(number / 3).saturating_add(1);

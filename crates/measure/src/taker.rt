@@ -7,7 +7,8 @@ use std::alloc::Global;
 use std::marker::Model;
 use std::snapshot::Snapshot;
 
-/// Takes each order. What it was asked is for contracts alone, as with a backend that starts programs: the list takes no memory.
+/// Takes each order. What it was asked is for contracts alone, as with a backend that starts
+/// programs: the list takes no memory.
 #[derive(Drop)]
 pub struct Taker {
     asked: Vec<Snapshot<Order>>,

@@ -41,7 +41,7 @@ impl Load {
 
 /// What the command line asks for.
 #[derive(Clone, Copy)]
-pub enum Words {
+pub enum AskedFigures {
     Help,
     /// To measure the steps that so many acts of so many seats take.
     Steps(Load),
@@ -83,15 +83,15 @@ impl Load {
 }
 
 /// What the command line asks for; None where it has other words than `--help` tells.
-pub fn read_words(env: &impl Env) -> Option<Words> {
+pub fn read_words(env: &impl Env) -> Option<AskedFigures> {
     let load = Load {
         seats: read_seats(env),
         count: number(env, 3, GREATEST_STEPS),
     };
     let mut room = [0; LONGEST_WORD];
     match word(env, 1, &mut room) {
-        b"steps" if load.is_of_seats() && !has_word(env, 4) => Some(Words::Steps(load)),
-        b"--help" if !has_word(env, 2) => Some(Words::Help),
+        b"steps" if load.is_of_seats() && !has_word(env, 4) => Some(AskedFigures::Steps(load)),
+        b"--help" if !has_word(env, 2) => Some(AskedFigures::Help),
         _ => None,
     }
 }

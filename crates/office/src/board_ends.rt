@@ -1,4 +1,5 @@
-//! The ends of a new board, on which the services' rows are published: its writer, and a reader for each seat.
+//! The ends of a new board, on which the services' rows are published: its writer, and a reader for
+//! each seat.
 ghost use Rattle.std.specs.Prelude.{◌≡◌, ◌≤◌, ◌⊎◌, ◌∷◌, [], IfOk, IfErr, length};
 ghost use Rattle.tree_core.specs.Machine.{Machine};
 ghost use Rattle.tree_core.specs.StandsFor.{StandsFor};
@@ -25,7 +26,8 @@ fn first_rows(alloc: Global, tree: &Tree<Global>) -> Result<StandingRows<Global>
     Ok(StandingRows::new(at, rows))
 }
 
-// Makes `count` readers of this board. `Board` where it gives no reader, `NoMemory` where memory for their list is refused.
+// Makes `count` readers of this board. `Board` where it gives no reader, `NoMemory` where memory
+// for their list is refused.
 #[tactic(auto, using(crate::proofs::Readers::readers_more))]
 fn readers_of<C: Channels, R: Wait + Drop>(
     alloc: Global,
@@ -48,8 +50,9 @@ fn readers_of<C: Channels, R: Wait + Drop>(
     Ok(readers)
 }
 
-/// Opens the board, to which `C` gives its name, with the first shot of this tree as all that was published. Returns its writer and
-/// `readers` readers. `NoMemory` where memory is refused, `Board` where the board gives no reader.
+/// Opens the board, to which `C` gives its name, with the first shot of this tree as all that was
+/// published. Returns its writer and `readers` readers. `NoMemory` where memory is refused, `Board`
+/// where the board gives no reader.
 pub fn board_ends<C: Channels, R: Wait + Drop>(
     alloc: Global,
     rt: R,

@@ -1,12 +1,12 @@
-//! How a lane is served: at its desk the lane's backend, which starts and signals programs, is asked the orders of the lane's ring.
+//! How a lane is served: at its desk the lane's backend is asked the orders of the lane's ring.
 ghost use Rattle.std.specs.Prelude.{◌≡◌, ◌≤◌, [], None, IsSome};
 ghost use Rattle.order_lanes.specs.declared.desk.Carried.TheVariants.{Asked, Idle, Refused};
 
 use order_lanes::{Backend, Carried, Desk, Lanes};
 use std::sync::{Mutex, Wait};
 
-/// Asks the desk's backend one order after another, at most `most`, which is 1 or more, until none is left or the backend hands one back.
-/// Returns what the last `carry_one` did.
+/// Asks the desk's backend one order after another, at most `most`, which is 1 or more, until none
+/// is left or the backend hands one back. Returns what the last `carry_one` did.
 pub fn carry_many<B: Backend, L: Lanes>(desk: &mut Desk<B, L>, most: u64) -> Carried
     requires { 1 ≤ most }
     ensures rest { (desk.new.lane ≡ desk.old.lane) × (desk.new.given ≡ desk.old.given) }
@@ -24,7 +24,8 @@ pub fn carry_many<B: Backend, L: Lanes>(desk: &mut Desk<B, L>, most: u64) -> Car
     desk.carry_one()
 }
 
-/// Gives this desk `turns` turns: in each its backend is asked one order, if there is one, under the desk's lock.
+/// Gives this desk `turns` turns: in each its backend is asked one order, if there is one, under
+/// the desk's lock.
 pub fn carry_in_turns<B: Backend, L: Lanes, R: Wait>(rt: &R, desk: &Mutex<Desk<B, L>>, turns: u64) {
     for _ in 0..turns {
         desk.lock(rt).carry_one();

@@ -1,12 +1,12 @@
-//! How desks are taken out of their locks, and put back. At a lane's desk its backend is asked orders.
+//! How desks are taken out of their locks, and put back.
 ghost use Rattle.std.specs.Prelude.{◌≡◌, ◌≤◌, [], length, vec_capacity};
 ghost use Rattle.office.specs.Changed.{ComeOf};
 
 use order_lanes::{Backend, Desk, Lanes};
 use std::sync::Mutex;
 
-/// Changes each item. Returns two lists: first `items`, now empty, and then `room` with the changed items, in the same order. `room` is
-/// empty before, and has room for them.
+/// Changes each item. Returns two lists: first `items`, now empty, and then `room` with the changed
+/// items, in the same order. `room` is empty before, and has room for them.
 fn change_each<T, U, F: Fn(T) -> U>(items: Vec<T>, room: Vec<U>, change: F) -> (Vec<T>, Vec<U>)
     requires callable { F.IsAlwaysCallable change }
     requires empty { room.items ≡ [] }
@@ -26,8 +26,9 @@ fn change_each<T, U, F: Fn(T) -> U>(items: Vec<T>, room: Vec<U>, change: F) -> (
     (items, changed)
 }
 
-/// Takes desks out of their locks. Returns two lists: first `locked`, now empty, and then `room` with the desks, in the same order. `room`
-/// is empty before, and has room for them. No lock is taken, since nobody else has the desks.
+/// Takes desks out of their locks. Returns two lists: first `locked`, now empty, and then `room`
+/// with the desks, in the same order. `room` is empty before, and has room for them. No lock is
+/// taken, since nobody else has the desks.
 pub fn unlock_all<B: Backend, L: Lanes>(
     locked: Vec<Mutex<Desk<B, L>>>,
     room: Vec<Desk<B, L>>,
@@ -42,8 +43,8 @@ pub fn unlock_all<B: Backend, L: Lanes>(
     change_each(locked, room, |desk| desk.into_inner())
 }
 
-/// Puts each desk behind a lock of its own. Returns two lists: first `room` with the locked desks, in the same order, and then `desks`, now
-/// empty. `room` is empty before, and has room for them.
+/// Puts each desk behind a lock of its own. Returns two lists: first `room` with the locked desks,
+/// in the same order, and then `desks`, now empty. `room` is empty before, and has room for them.
 pub fn lock_all<B: Backend, L: Lanes>(
     desks: Vec<Desk<B, L>>,
     room: Vec<Mutex<Desk<B, L>>>,

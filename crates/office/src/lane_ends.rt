@@ -1,4 +1,5 @@
-//! The ends of new lanes: the tree's, which sends orders, and the desks of the backends, which start and signal programs.
+//! The ends of new lanes: the tree's, which sends orders, and the desks of the backends, which
+//! start and signal programs.
 ghost use Rattle.std.specs.Prelude.{◌≡◌, ◌≤◌, [], ℕ, length, vec_capacity, IfOk, Some, slice_get};
 ghost use Rattle.order_lanes.specs.Lane.{sent_in};
 ghost use Rattle.office.specs.Opening.{AreLaneRings, AreAsked};
@@ -8,7 +9,8 @@ use s6_events::NoMemory;
 use std::alloc::Global;
 use std::sync::Mutex;
 
-/// The tree's end of each lane, and the desk of each backend behind a lock of its own, both in the order of the lanes' numbers.
+/// The tree's end of each lane, and the desk of each backend behind a lock of its own, both in the
+/// order of the lanes' numbers.
 #[derive(Drop)]
 pub struct LaneEnds<B: Backend, L: Lanes> {
     pub lanes: Vec<Lane<L>>,
@@ -16,7 +18,8 @@ pub struct LaneEnds<B: Backend, L: Lanes> {
 }
 
 impl<B: Backend, L: Lanes> LaneEnds<B, L> {
-    /// Lists with no lane and no desk, and room for `count` of each. `NoMemory` where memory is refused.
+    /// Lists with no lane and no desk, and room for `count` of each. `NoMemory` where memory is
+    /// refused.
     pub fn with_room(alloc: Global, count: usize) -> Result<LaneEnds<B, L>, NoMemory>
         ensures lanes { IfOk result (λ e. (e.lanes.items ≡ []) × (count ≤ vec_capacity e.lanes)) }
         ensures desks { IfOk result (λ e. (e.desks.items ≡ []) × (count ≤ vec_capacity e.desks)) }
@@ -27,8 +30,8 @@ impl<B: Backend, L: Lanes> LaneEnds<B, L> {
         })
     }
 
-    /// Fills the lists with the ends of these rings, each with the backend at its place. `L` gives the rings their names. There is room for
-    /// the ends.
+    /// Fills the lists with the ends of these rings, each with the backend at its place. `L` gives
+    /// the rings their names. There is room for the ends.
     pub fn fill(self, rings: Vec<LaneRing>, backends: Vec<B>) -> LaneEnds<B, L>
         requires empty { (self.lanes.items ≡ []) × (self.desks.items ≡ []) }
         requires lane_room { length rings.items ≤ vec_capacity self.lanes }

@@ -1,4 +1,5 @@
-//! The office: a tree that several threads run, behind one lock, with its lanes beside it.
+//! The office: a tree that several threads run, behind one lock, with its lanes beside it: at a
+//! lane's desk its backend is asked orders.
 #![tactic(auto)]
 
 mod board_ends;

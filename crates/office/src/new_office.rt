@@ -36,8 +36,8 @@ pub enum OpenFault {
     Board = 4,
 }
 
-/// A tree, with new rings for its actors, a new ring for each backend, and new histories for its board and its inputs. A run gives names to
-/// these, and then opens the office.
+/// A tree, with new rings for its actors, a new ring for each backend, and new histories for its
+/// board and its inputs. A run gives names to these, and then opens the office.
 #[derive(Drop)]
 pub struct NewOffice<B: Drop> {
     pub(crate) tree: Box<Tree<Global>>,
@@ -83,7 +83,8 @@ fn refuse(actors: usize, lanes: usize) -> Option<OpenFault>
     None
 }
 
-// A new ring for each of `actors` actors, in the order of their numbers. `NoMemory` where memory is refused.
+// A new ring for each of `actors` actors, in the order of their numbers. `NoMemory` where memory is
+// refused.
 #[tactic(auto, using(crate::proofs::Numbered::length_rings, crate::proofs::Numbered::ordered_rings))]
 fn new_rings(alloc: Global, actors: usize) -> Result<Vec<Ring>, NoMemory>
     requires { (1 ≤ actors) × (actors ≤ 16) }
@@ -96,8 +97,9 @@ fn new_rings(alloc: Global, actors: usize) -> Result<Vec<Ring>, NoMemory>
 }
 
 impl<B: Drop> NewOffice<B> {
-    /// An office of this tree, with `actors` actors, and a lane for each of these backends. `Actors` or `Lanes` where there are too few or
-    /// too many, `NoMemory` where memory is refused: the tree and the backends then come back.
+    /// An office of this tree, with `actors` actors, and a lane for each of these backends.
+    /// `Actors` or `Lanes` where there are too few or too many, `NoMemory` where memory is refused:
+    /// the tree and the backends then come back.
     pub fn new(
         alloc: Global,
         tree: Box<Tree<Global>>,

@@ -1,4 +1,5 @@
-//! The office: the room, which has the tree and its steps, behind one lock, and each lane's desk behind its own.
+//! The office: the room, which has the tree and its steps, behind one lock, and each lane's desk
+//! behind its own.
 ghost use Rattle.std.specs.Prelude.{◌≡◌, ◌⊎◌, ◌≤◌, ◌<◌, IfOk, IfErr, List, length, not, option_map, position};
 ghost use Rattle.std.specs.declared.alloc.Global.{Global};
 ghost use Rattle.tree_core.specs.declared.input.Input.{Input};
@@ -46,14 +47,16 @@ pub struct NotStarted {
     pub lane: usize,
 }
 
-/// A tree that several threads run. It has a room, which one thread at a time enters, and for each lane a desk behind a lock of its own, so
-/// that no backend keeps anybody out of the room. What is promised of a room or of a desk holds whenever its lock is free. Contracts see
-/// how many lanes there are.
+/// A tree that several threads run. It has a room, which one thread at a time enters, and for each
+/// lane a desk behind a lock of its own, so that no backend keeps anybody out of the room. What is
+/// promised of a room or of a desk holds whenever its lock is free. Contracts see how many lanes
+/// there are.
 ///
-/// A call that tells of the run takes a `KnownHistory`, a token for proofs: the inputs that its caller knows to be done. The call sets it to
-/// all inputs that were done: what was known before is a beginning of these. The answer is that of the run that did just these inputs. So
-/// all answers to a caller are of one run. Two callers, such as two threads, learn by `compare` that theirs is the same run. The contracts
-/// of `Desk` tell what a backend was asked and what it reported.
+/// A call that tells of the run takes a `KnownHistory`, a token for proofs: the inputs that its
+/// caller knows to be done. The call sets it to all inputs that were done: what was known before is
+/// a beginning of these. The answer is that of the run that did just these inputs. So all answers
+/// to a caller are of one run. Two callers, such as two threads, learn by `compare` that theirs is
+/// the same run. The contracts of `Desk` tell what a backend was asked and what it reported.
 #[derive(Drop)]
 pub struct Office<C: Channels + Lanes, D: Board<C>, B: Backend> {
     room: Mutex<Room<C, D>>,
@@ -71,6 +74,8 @@ impl<C: Channels + Lanes, D: Board<C>, B: Backend> Model for Office<C, D, B> {
     ghost invariant = { λ o. length o.desks.items ≤ 4 };
 }
 
+// Two lines of many calls are for the proof alone: by `show` all inputs that were done become
+// known, and the clause `sound` of `Room::steps` says that the steps are a legal history.
 impl<C: Channels + Lanes, D: Board<C>, B: Backend> Office<C, D, B> {
     /// An office of this room and these desks, with spare lists for its close.
     pub fn over(
@@ -96,8 +101,8 @@ impl<C: Channels + Lanes, D: Board<C>, B: Backend> Office<C, D, B> {
         self.desks.len()
     }
 
-    /// Makes at most `most` steps in the room, and publishes the state, as `Room::drive` does. All inputs that were done before, and those
-    /// of these steps, become known.
+    /// Makes at most `most` steps in the room, and publishes the state, as `Room::drive` does. All
+    /// inputs that were done before, and those of these steps, become known.
     pub fn drive<W: Wait>(&self, rt: &W, known: &mut KnownHistory<C>, most: u64) -> Driven
         ensures longer { IsPrefix known.old known.new }
         ensures most { result.steps ≤ most }
@@ -107,28 +112,26 @@ impl<C: Channels + Lanes, D: Board<C>, B: Backend> Office<C, D, B> {
         ensures told { IsTold C.opening known.new (λ v. Stops result.stop v.running) }
     {
         let mut room = self.room.lock(rt);
-        // For the proof alone: all inputs that were done become known.
         room.show(rt, known);
         let driven = room.drive(rt, most);
         room.show(rt, known);
-        // For the proof alone: the clause `sound` of `Room::steps` says that the steps are a legal history.
         let _steps = room.steps();
         driven
     }
 
-    /// For proofs alone: a token (`KnownHistory`) of all inputs that were done so far, for a caller that has none yet.
+    /// For proofs alone: a token (`KnownHistory`) of all inputs that were done so far, for a caller
+    /// that has none yet.
     pub fn history<W: Wait>(&self, rt: &W) -> KnownHistory<C>
         ensures { (v : RoomView) × IsSoundHistory C.opening v
             × (result ≡ inputs_of v.running.steps) }
     {
         let mut room = self.room.lock(rt);
-        // For the proof alone: the clause `sound` of `Room::steps` says that the steps are a legal history.
         let _steps = room.steps();
         room.history()
     }
 
-    /// For proofs alone: shows that what two callers know is of one run. Sets both to all inputs that were done so far; before, one was a
-    /// beginning of the other.
+    /// For proofs alone: shows that what two callers know is of one run. Sets both to all inputs
+    /// that were done so far; before, one was a beginning of the other.
     pub fn compare<W: Wait>(&self, rt: &W, one: &mut KnownHistory<C>, other: &mut KnownHistory<C>)
         ensures longer { IsPrefix one.old one.new × IsPrefix other.old other.new }
         ensures same { one.new ≡ other.new }
@@ -146,14 +149,13 @@ impl<C: Channels + Lanes, D: Board<C>, B: Backend> Office<C, D, B> {
         ensures rising { NeverFalls result }
     {
         let mut room = self.room.lock(rt);
-        // For the proof alone: all inputs that were done become known.
         room.show(rt, known);
-        // For the proof alone: the clause `sound` of `Room::steps` says that the steps are a legal history.
         let _steps = room.steps();
         room.tell()
     }
 
-    /// The reply to the input of a ticket; None where its step isn't made yet. `NoMemory` where memory is refused.
+    /// The reply to the input of a ticket; None where its step isn't made yet. `NoMemory` where
+    /// memory is refused.
     pub fn reply<W: Wait>(
         &self,
         rt: &W,
@@ -165,14 +167,13 @@ impl<C: Channels + Lanes, D: Board<C>, B: Backend> Office<C, D, B> {
             (λ reply. reply ≡ reply_at ticket.actor ticket.number v.running.steps)) }
     {
         let mut room = self.room.lock(rt);
-        // For the proof alone: all inputs that were done become known.
         room.show(rt, known);
-        // For the proof alone: the clause `sound` of `Room::steps` says that the steps are a legal history.
         let _steps = room.steps();
         room.reply(ticket)
     }
 
-    /// All that step `number` gave, counted from 1; None where there is no such step. `NoMemory` where memory is refused.
+    /// All that step `number` gave, counted from 1; None where there is no such step. `NoMemory`
+    /// where memory is refused.
     pub fn effect<W: Wait>(
         &self,
         rt: &W,
@@ -184,16 +185,16 @@ impl<C: Channels + Lanes, D: Board<C>, B: Backend> Office<C, D, B> {
             (λ effect. option_map (λ e. outcome_of e) effect ≡ outcome_at number v.running.steps)) }
     {
         let mut room = self.room.lock(rt);
-        // For the proof alone: all inputs that were done become known.
         room.show(rt, known);
-        // For the proof alone: the clause `sound` of `Room::steps` says that the steps are a legal history.
         let _steps = room.steps();
         room.effect(number)
     }
 
-    /// Fills an effect with all that step `number` gave, counted from 1, and returns whose input it took and when that was handed in; what
-    /// the effect held is gone. None where there is no such step: nothing is filled in. `NoMemory` where memory is refused: the effect may
-    /// then be filled in part. A caller that reads many steps takes less memory if it fills the same effect each time.
+    /// Fills an effect with all that step `number` gave, counted from 1, and returns whose input it
+    /// took and when that was handed in; what the effect held is gone. None where there is no such
+    /// step: nothing is filled in. `NoMemory` where memory is refused: the effect may then be
+    /// filled in part. A caller that reads many steps takes less memory if it fills the same effect
+    /// each time.
     pub fn step<W: Wait>(
         &self,
         rt: &W,
@@ -206,9 +207,7 @@ impl<C: Channels + Lanes, D: Board<C>, B: Backend> Office<C, D, B> {
             (λ source. IsStepOf source (outcome_of effect.new) number v.running.steps)) }
     {
         let mut room = self.room.lock(rt);
-        // For the proof alone: all inputs that were done become known.
         room.show(rt, known);
-        // For the proof alone: the clause `sound` of `Room::steps` says that the steps are a legal history.
         let _steps = room.steps();
         room.step(number, effect)
     }
@@ -219,22 +218,19 @@ impl<C: Channels + Lanes, D: Board<C>, B: Backend> Office<C, D, B> {
         ensures told { IsTold C.opening known.new (λ v. result ≡ actor_at number v.running.steps) }
     {
         let mut room = self.room.lock(rt);
-        // For the proof alone: all inputs that were done become known.
         room.show(rt, known);
-        // For the proof alone: the clause `sound` of `Room::steps` says that the steps are a legal history.
         let _steps = room.steps();
         room.actor(number)
     }
 
-    /// The moment at which the input of step `number` was handed in, counted from 1; None where there is no such step.
+    /// The moment at which the input of step `number` was handed in, counted from 1; None where
+    /// there is no such step.
     pub fn moment<W: Wait>(&self, rt: &W, known: &mut KnownHistory<C>, number: u64) -> Option<At>
         ensures longer { IsPrefix known.old known.new }
         ensures told { IsTold C.opening known.new (λ v. result ≡ moment_at number v.running.steps) }
     {
         let mut room = self.room.lock(rt);
-        // For the proof alone: all inputs that were done become known.
         room.show(rt, known);
-        // For the proof alone: the clause `sound` of `Room::steps` says that the steps are a legal history.
         let _steps = room.steps();
         room.moment(number)
     }
@@ -245,12 +241,12 @@ impl<C: Channels + Lanes, D: Board<C>, B: Backend> Office<C, D, B> {
         ensures told { IsTold C.opening known.new (λ v. result ≡ length v.running.steps) }
     {
         let mut room = self.room.lock(rt);
-        // For the proof alone: all inputs that were done become known.
         room.show(rt, known);
         room.steps()
     }
 
-    /// Writes the run as a recorded script, as `Room::write_run` does. The room's lock is held meanwhile.
+    /// Writes the run as a recorded script, as `Room::write_run` does. The room's lock is held
+    /// meanwhile.
     pub fn write_run<R: Wait, W: Write>(
         &self,
         rt: &R,
@@ -266,43 +262,39 @@ impl<C: Channels + Lanes, D: Board<C>, B: Backend> Office<C, D, B> {
             (W.contents writer.old) (W.contents writer.new))) }
     {
         let mut room = self.room.lock(rt);
-        // For the proof alone: all inputs that were done become known.
         room.show(rt, known);
-        // For the proof alone: the clause `sound` of `Room::steps` says that the steps are a legal history.
         let _steps = room.steps();
         room.write_run(head, writer)
     }
 
-    /// Whether the tree has ended: it is closing, and the supervisor of each service in the tree has ended.
+    /// Whether the tree has ended: it is closing, and the supervisor of each service in the tree
+    /// has ended.
     pub fn ended<W: Wait>(&self, rt: &W, known: &mut KnownHistory<C>) -> bool
         ensures longer { IsPrefix known.old known.new }
         ensures told { IsTold C.opening known.new (λ v. (m : Machine)
             → StandsFor v.running.opening m → result ≡ has_ended (end_of m v.running.steps)) }
     {
         let mut room = self.room.lock(rt);
-        // For the proof alone: all inputs that were done become known.
         room.show(rt, known);
-        // For the proof alone: the clause `sound` of `Room::steps` says that the steps are a legal history.
         let _steps = room.steps();
         room.ended()
     }
 
-    /// The next moment, in milliseconds, to which a timer or a deadline is set; None where there is none.
+    /// The next moment, in milliseconds, to which a timer or a deadline is set; None where there is
+    /// none.
     pub fn next_due<W: Wait>(&self, rt: &W, known: &mut KnownHistory<C>) -> Option<u64>
         ensures longer { IsPrefix known.old known.new }
         ensures told { IsTold C.opening known.new (λ v. (m : Machine)
             → StandsFor v.running.opening m → result ≡ next_due (end_of m v.running.steps)) }
     {
         let mut room = self.room.lock(rt);
-        // For the proof alone: all inputs that were done become known.
         room.show(rt, known);
-        // For the proof alone: the clause `sound` of `Room::steps` says that the steps are a legal history.
         let _steps = room.steps();
         room.next_due()
     }
 
-    /// Asks a lane's backend one order after another, at most `most`, until none is left or the backend hands one back. Returns what the
-    /// last `carry_one` did.
+    /// Asks a lane's backend one order after another, at most `most`, until none is left or the
+    /// backend hands one back. Returns what the last `carry_one` did.
     pub fn carry<W: Wait>(&self, rt: &W, lane: usize, most: u64) -> Carried
         requires lane { lane < self.now }
         requires most { 1 ≤ most }
@@ -320,12 +312,12 @@ impl<C: Channels + Lanes, D: Board<C>, B: Backend> Office<C, D, B> {
 }
 
 impl<C: Channels + Lanes, D: Board<C>, B: Backend> Office<C, D, B> {
-    /// Closes the run, once each seat has finished and all threads that used the office have returned. Returns the tree, how many steps it
-    /// made, these steps, and the backends, in the order of their lanes. Where each office was opened on the tree that the one before gave
-    /// back, they are one run (`locked_services::laws::chain`). `Room::close` says what a close needs, and what it leaves. All inputs that
-    /// were done become known. At a fault the office and the finishes come back. It takes no lock and no memory. The desks are taken out of their
-    /// locks into a list that was made for that when the office was opened (`Spare`); at a fault they are put back behind locks, and that list is
-    /// empty again. A finish is what is left of a seat that has ended.
+    /// Closes the run, once each seat has finished and all threads that used the office have
+    /// returned; `Room::close` says what else it needs. Ok: the tree, how many steps it made, these
+    /// steps, and the backends, in the order of their lanes. Fault: the office and the finishes
+    /// come back. All inputs that were done become known. It takes no lock and no memory (`Spare`).
+    /// Offices that were each opened on the tree of the one before make one run
+    /// (`locked_services::laws::chain`).
     pub fn close<R: Wait>(
         self,
         rt: &R,
@@ -343,14 +335,12 @@ impl<C: Channels + Lanes, D: Board<C>, B: Backend> Office<C, D, B> {
     {
         let Office { room, desks, spare } = self;
         let Spare {
-            desks: room_of_desks,
+            desks: spare_desks,
             backends,
         } = spare.into_inner();
-        let (locks, desks) = unlock_all(desks, room_of_desks);
+        let (locks, desks) = unlock_all(desks, spare_desks);
         let mut room = room.into_inner();
-        // For the proof alone: all inputs that were done become known.
         room.show(rt, known);
-        // For the proof alone: the clause `sound` of `Room::steps` says that the steps are a legal history.
         let _steps = room.steps();
         match room.close(desks, backends, finishes) {
             Ok(closed) => Ok(closed),
@@ -375,8 +365,9 @@ impl<C: Channels + Lanes, D: Board<C>, B: Backend> Office<C, D, B> {
 }
 
 impl<C: Channels + Lanes + Send + Sync, D: Board<C>, B: Backend + Send> Office<C, D, B> {
-    /// Serves each lane in a thread of its own, for `turns` turns: in each its backend is asked one order, if there is one. `NotStarted`
-    /// names the least lane whose thread could not be made; each lane whose thread was made was served.
+    /// Serves each lane in a thread of its own, for `turns` turns: in each its backend is asked one
+    /// order, if there is one. `NotStarted` names the least lane whose thread could not be made;
+    /// each lane whose thread was made was served.
     pub fn serve_lanes<R: Threads + Wait + Sync>(
         &self,
         rt: &R,
@@ -390,7 +381,8 @@ impl<C: Channels + Lanes + Send + Sync, D: Board<C>, B: Backend + Send> Office<C
     }
 }
 
-// Serves each desk in a thread of its own. Returns for each lane whether its thread could be made, and true where there is no lane.
+// Serves each desk in a thread of its own. Returns for each lane whether its thread could be made,
+// and true where there is no lane.
 fn serve_each<B: Backend + Send, L: Lanes + Send + Sync, R: Threads + Wait + Sync>(
     rt: &R,
     desks: &[Mutex<Desk<B, L>>],

@@ -25,7 +25,8 @@ use std::alloc::Global;
 use std::sync::Wait;
 use tree_core::Tree;
 
-/// An open office, a seat for each actor, as many readers of the board, and what is known of the run, which has done no input yet.
+/// An open office, a seat for each actor, as many readers of the board, and what is known of the
+/// run, which has done no input yet.
 #[derive(Drop)]
 pub struct Opened<C: Channels + Lanes, D: Board<C>, B: Backend> {
     pub office: Office<C, D, B>,
@@ -34,9 +35,10 @@ pub struct Opened<C: Channels + Lanes, D: Board<C>, B: Backend> {
     pub known: KnownHistory<C>,
 }
 
-// The parts of an office for which memory is taken. The lists of its lanes and desks are still empty.
+// The parts of an office for which memory is taken. The lists of its lanes and desks are still
+// empty.
 #[derive(Drop)]
-struct Parts<C: Channels + Lanes, D: Board<C>, B: Backend> {
+struct OfficeParts<C: Channels + Lanes, D: Board<C>, B: Backend> {
     beginning: Beginning,
     ends: SeatEnds<C>,
     board: D,
@@ -45,8 +47,9 @@ struct Parts<C: Channels + Lanes, D: Board<C>, B: Backend> {
     spare: Spare<B, C>,
 }
 
-// Makes the parts for which memory is taken. `C` gives the rings and the board their names. `NoMemory` where memory is refused, `Board`
-// where the board gives no reader. `beginning` is what the running tree begins with, `ends` has the seats and the tree's ends of their rings, and
+// Makes the parts for which memory is taken. `C` gives the rings and the board their names.
+// `NoMemory` where memory is refused, `Board` where the board gives no reader. `beginning` is what
+// the running tree begins with, `ends` has the seats and the tree's ends of their rings, and
 // `spare` has lists that the close of the office fills.
 fn make_parts<C: Channels + Lanes, R: Wait + Drop, B: Backend>(
     alloc: Global,
@@ -55,7 +58,7 @@ fn make_parts<C: Channels + Lanes, R: Wait + Drop, B: Backend>(
     rings: Vec<Ring>,
     board: NewBoard,
     lanes: usize,
-) -> Result<Parts<C, BoardWriter<C, R>, B>, OpenFault>
+) -> Result<OfficeParts<C, BoardWriter<C, R>, B>, OpenFault>
     requires rings { AreNamed C.seat_ring rings.items }
     requires actors { (1 ≤ length rings.items) × (length rings.items ≤ 16) }
     requires board { board ≡ C.board }
@@ -87,7 +90,7 @@ fn make_parts<C: Channels + Lanes, R: Wait + Drop, B: Backend>(
         return Err(OpenFault::NoMemory);
     };
     let (board, readers) = board_ends::<C, R>(alloc, rt, board, tree, count)?;
-    Ok(Parts {
+    Ok(OfficeParts {
         beginning,
         ends,
         board,
@@ -97,8 +100,8 @@ fn make_parts<C: Channels + Lanes, R: Wait + Drop, B: Backend>(
     })
 }
 
-// The room of a run that begins with this tree. The tree's first shot is all that was published. The running tree keeps `alloc` for its
-// later calls.
+// The room of a run that begins with this tree. The tree's first shot is all that was published.
+// The running tree keeps `alloc` for its later calls.
 fn new_room<C: Channels + Lanes, D: Board<C>>(
     alloc: Global,
     beginning: Beginning,
@@ -128,8 +131,9 @@ fn new_room<C: Channels + Lanes, D: Board<C>>(
     Room::begin(running, board, WholeHistory::over(history))
 }
 
-impl<C: Channels + Lanes, D: Board<C>, B: Backend> Parts<C, D, B> {
-    // The open office of these parts. It takes no memory: the running tree keeps `alloc` for its later calls.
+impl<C: Channels + Lanes, D: Board<C>, B: Backend> OfficeParts<C, D, B> {
+    // The open office of these parts. It takes no memory: the running tree keeps `alloc` for its
+    // later calls.
     fn into_open(
         self,
         alloc: Global,
@@ -154,7 +158,7 @@ impl<C: Channels + Lanes, D: Board<C>, B: Backend> Parts<C, D, B> {
         ensures ends { (result.seats ≡ self.ends.seats) × (result.readers ≡ self.readers) }
         ensures known { result.known ≡ [] }
     {
-        let Parts {
+        let OfficeParts {
             beginning,
             ends,
             board,
@@ -179,8 +183,9 @@ impl<C: Channels + Lanes, D: Board<C>, B: Backend> Parts<C, D, B> {
 }
 
 impl<B: Backend> NewOffice<B> {
-    /// Opens the office, with a seat for each actor, as many readers of the board, and no step made. `C` gives its rings, board and history
-    /// their names. `NoMemory` where memory is refused, and `Board` where the board gives no reader: the tree and the backends then come
+    /// Opens the office, with a seat for each actor, as many readers of the board, and no step
+    /// made. `C` gives its rings, board and history their names. `NoMemory` where memory is
+    /// refused, and `Board` where the board gives no reader: the tree and the backends then come
     /// back.
     pub fn open<C: Channels + Lanes, R: Wait + Drop>(
         self,

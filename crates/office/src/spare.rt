@@ -6,8 +6,8 @@ use order_lanes::{Backend, Desk, Lanes};
 use s6_events::NoMemory;
 use std::alloc::Global;
 
-/// Empty lists with room for the desks of all lanes, and for their backends. They are made when an office is opened, so that its close
-/// takes no memory.
+/// Empty lists with room for the desks of all lanes, and for their backends. They are made when an
+/// office is opened, so that its close takes no memory.
 #[derive(Drop)]
 pub struct Spare<B: Backend, L: Lanes> {
     pub desks: Vec<Desk<B, L>>,

@@ -4,7 +4,8 @@ use s6_script::{parse_line, push_number, push_spaced};
 use std::alloc::{AllocError, Global};
 use tree_core::Input;
 
-/// An act of each kind, as a script has it. `#` stands for how many acts of its kind there are up to this one, `%` for its number.
+/// An act of each kind, as a script has it. `#` stands for how many acts of its kind there are up
+/// to this one, `%` for its number.
 const ACTS: &str = "scan first second
 started 1 # %
 svc second u
@@ -24,8 +25,8 @@ unsubscribe #
 scanctl n
 tick";
 
-// The act of this number: of most kinds one in 18. Those for which a pattern is built or searched are rarer, since they take most of the
-// time; and now and then all services are ordered to leave.
+// The act of this number: of most kinds one in 18. Those for which a pattern is built or searched
+// are rarer, since they take most of the time; and now and then all services are ordered to leave.
 fn act_of(number: u32) -> &'static str {
     match number % 18 {
         11 if number % 1_800 == 11 => "subscribe dir free repeat a+b",
@@ -53,7 +54,8 @@ fn push_act(text: &mut Vec<u8>, number: u32) -> Result<(), AllocError> {
     Ok(())
 }
 
-// Adds the line of an actor's input of this number. Each comes a tenth of a second after the one before.
+// Adds the line of an actor's input of this number. Each comes a tenth of a second after the one
+// before.
 fn push_input(text: &mut Vec<u8>, actor: Actor, number: u32) -> Result<(), AllocError> {
     push_number(text, u64::from(number) * 100)?;
     push_spaced(text, u64::from(actor.number()))?;

@@ -28,7 +28,8 @@ fn actor_of(number: u64) -> Option<Actor> {
     Actor::new(u8::try_from(number).ok()?)
 }
 
-/// Does what a line asks of an office, and writes what came of it. Whether the line could be read, and there was memory.
+/// Does what a line asks of an office, and writes what came of it. Whether the line could be read,
+/// and there was memory.
 pub fn ask<C: Channels + Lanes, D: Board<C>, B: Backend, R: Wait>(
     rt: &R,
     alloc: Global,
@@ -201,7 +202,8 @@ fn tell_checked<C: Channels + Lanes, D: Board<C>, B: Backend, R: Wait>(
     }
 }
 
-// Tells whether a new tree that takes the inputs of so many steps, one after the other, gives the replies of the records.
+// Tells whether a new tree that takes the inputs of so many steps, one after the other, gives the
+// replies of the records.
 fn tell_replayed<C: Channels + Lanes, D: Board<C>, B: Backend, R: Wait>(
     rt: &R,
     alloc: Global,

@@ -1,5 +1,5 @@
 //! Two lanes are served at once.
-use crate::parts::{Log, Parts, new_log, new_probe, new_tree};
+use crate::parts::{AskedLog, TestParts, new_log, new_probe, new_tree};
 use crate::scenes::same;
 use crate::stage::play_scene;
 use order_lanes::probe::Probe;
@@ -13,14 +13,14 @@ use std::thread;
 use std::time::{Clock, Duration};
 
 /// How many of both backends came, and 256 for each of these that met the other.
-type Count = Arc<AtomicU64, Global>;
+type MetCounter = Arc<AtomicU64, Global>;
 
 /// A backend that waits at its first order for the other one's.
 #[derive(Drop)]
 struct Meeting<R> {
     rt: R,
     probe: Probe<R>,
-    count: Count,
+    count: MetCounter,
 }
 
 impl<R: Wait + Clock + Drop> Backend for Meeting<R> {
@@ -54,8 +54,8 @@ fn wait_for_both<R: Wait + Clock>(rt: &R, count: &AtomicU64) {
 fn add_meeting<R: Copy + Drop>(
     rt: R,
     alloc: Global,
-    log: &Log,
-    count: &Count,
+    log: &AskedLog,
+    count: &MetCounter,
     all: &mut Vec<Meeting<R>>,
 ) -> Result<(), NoMemory> {
     let count = Arc::try_clone(count)?;
@@ -68,14 +68,14 @@ fn add_meeting<R: Copy + Drop>(
 fn meetings<R: Copy + Drop>(
     rt: R,
     alloc: Global,
-    log: &Log,
-    count: &Count,
-) -> Result<Parts<Meeting<R>>, NoMemory> {
+    log: &AskedLog,
+    count: &MetCounter,
+) -> Result<TestParts<Meeting<R>>, NoMemory> {
     let mut backends = Vec::new(alloc);
     add_meeting(rt, alloc, log, count, &mut backends)?;
     add_meeting(rt, alloc, log, count, &mut backends)?;
     let tree = new_tree(alloc)?;
-    Ok(Parts { tree, backends })
+    Ok(TestParts { tree, backends })
 }
 
 /// Two services are started, one of each lane.
@@ -108,7 +108,7 @@ fn look_at_count<R: Abort>(rt: &R, count: &AtomicU64) {
 }
 
 // Both were asked one order each.
-fn look_at_log<R: Wait + Abort>(rt: &R, log: &Log) {
+fn look_at_log<R: Wait + Abort>(rt: &R, log: &AskedLog) {
     let orders = log.lock(rt).len();
     assert_eq!(rt; orders, 2);
 }

@@ -14,7 +14,8 @@ use tree_core::{Effect, Input, Reply, Tree};
 /// How many inputs each of the two actors hands in.
 const INPUTS: u32 = 1_000;
 
-/// What was noted while a thread held the lock: which step its input was, and what that was answered.
+/// What was noted while a thread held the lock: which step its input was, and what that was
+/// answered.
 #[derive(Drop)]
 struct Note {
     step: u64,
@@ -87,7 +88,8 @@ fn step_in_two_threads<R: Threads + Wait + Abort + Sync>(
     )
 }
 
-// Whether the step is that of an actor's next input, and is answered as was noted. How many of them were replayed is counted.
+// Whether the step is that of an actor's next input, and is answered as was noted. How many of them
+// were replayed is counted.
 fn replay_one(
     alloc: Global,
     tree: &mut Tree<Global>,

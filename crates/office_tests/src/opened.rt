@@ -1,6 +1,6 @@
 //! What is asked of an office that is open.
 use crate::asking::ask;
-use crate::parts::Parts;
+use crate::parts::TestParts;
 use crate::seats::{finish, submit_beside, submit_many, take_board};
 use crate::storm::storm;
 use channel_names::Channels;
@@ -27,7 +27,7 @@ pub struct Open<C: Channels + Lanes, D: Board<C>, B: Backend> {
 pub fn close<C: Channels + Lanes, D: Board<C>, B: Backend, R: Wait>(
     rt: &R,
     open: &mut Option<Open<C, D, B>>,
-    left: &mut Option<Parts<B>>,
+    left: &mut Option<TestParts<B>>,
     text: &mut Vec<u8>,
 ) -> bool {
     let Some(Open { opened, finishes }) = open.take() else {
@@ -54,15 +54,17 @@ pub fn close<C: Channels + Lanes, D: Board<C>, B: Backend, R: Wait>(
     }
 }
 
-// The run is closed: how many steps it made, how many the tree has made, and how many backends there are.
-fn leave<B: Drop>(closed: Closed<B>, left: &mut Option<Parts<B>>, text: &mut Vec<u8>) -> bool {
+// The run is closed: how many steps it made, how many the tree has made, and how many backends
+// there are.
+fn leave<B: Drop>(closed: Closed<B>, left: &mut Option<TestParts<B>>, text: &mut Vec<u8>) -> bool {
     let (steps, made, lanes) = (closed.steps, closed.tree.steps(), closed.backends.len());
     let Closed { tree, backends, .. } = closed;
-    *left = Some(Parts { tree, backends });
+    *left = Some(TestParts { tree, backends });
     writeln!(text, "{steps} steps, tree of {made}, {lanes} backends").is_ok()
 }
 
-/// Does what a line asks of an open office, and writes what came of it. Whether the line could be read, and there was memory.
+/// Does what a line asks of an open office, and writes what came of it. Whether the line could be
+/// read, and there was memory.
 pub fn do_open<
     B: Backend + Send,
     C: Channels + Lanes + Send + Sync,

@@ -7,10 +7,10 @@ use std::sync::{Arc, Mutex, Wait};
 use tree_core::{Act, Input, Tree};
 
 /// Where probes write down what they are asked.
-pub type Log = Arc<Mutex<Vec<Order>>, Global>;
+pub type AskedLog = Arc<Mutex<Vec<Order>>, Global>;
 
 /// A log in which nothing is written.
-pub fn new_log(alloc: Global) -> Result<Log, NoMemory> {
+pub fn new_log(alloc: Global) -> Result<AskedLog, NoMemory> {
     Ok(Arc::new(alloc, Mutex::new(Vec::new(alloc)))?)
 }
 
@@ -24,7 +24,7 @@ pub fn new_probe<R: Drop>(
     rt: R,
     alloc: Global,
     reports: Vec<Report>,
-    log: &Log,
+    log: &AskedLog,
 ) -> Result<Probe<R>, NoMemory> {
     let log = Arc::try_clone(log)?;
     Ok(Probe::new(rt, alloc, reports, 0, log))
@@ -35,7 +35,7 @@ fn new_probes<R: Copy + Drop>(
     rt: R,
     alloc: Global,
     count: usize,
-    log: &Log,
+    log: &AskedLog,
 ) -> Result<Vec<Probe<R>>, NoMemory> {
     let mut probes = Vec::new(alloc);
     for _ in 0..count {
@@ -46,7 +46,7 @@ fn new_probes<R: Copy + Drop>(
 
 /// What a run begins with.
 #[derive(Drop)]
-pub struct Parts<B: Drop> {
+pub struct TestParts<B: Drop> {
     pub tree: Box<Tree<Global>>,
     pub backends: Vec<B>,
 }
@@ -56,11 +56,11 @@ pub fn new_parts<R: Copy + Drop>(
     rt: R,
     alloc: Global,
     lanes: usize,
-    log: &Log,
-) -> Result<Parts<Probe<R>>, NoMemory> {
+    log: &AskedLog,
+) -> Result<TestParts<Probe<R>>, NoMemory> {
     let backends = new_probes(rt, alloc, lanes, log)?;
     let tree = new_tree(alloc)?;
-    Ok(Parts { tree, backends })
+    Ok(TestParts { tree, backends })
 }
 
 /// Makes one step: whether the tree took it.
@@ -95,7 +95,7 @@ fn push_orders(text: &mut Vec<u8>, orders: &[Order]) -> Result<(), AllocError> {
 }
 
 /// Adds how many orders were written into the log, and the first two.
-pub fn push_log<R: Wait>(rt: &R, log: &Log, text: &mut Vec<u8>) -> Result<(), AllocError> {
+pub fn push_log<R: Wait>(rt: &R, log: &AskedLog, text: &mut Vec<u8>) -> Result<(), AllocError> {
     let orders = log.lock(rt);
     push_orders(text, orders.as_slice())
 }

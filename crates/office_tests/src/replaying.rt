@@ -115,8 +115,8 @@ fn gives_each<C: Channels + Lanes, D: Board<C>, B: Backend, R: Wait>(
     is_same
 }
 
-/// Whether a new tree that takes the inputs of so many steps, one after the other, gives the replies of the records; None where there is
-/// no memory, and where a step is not there.
+/// Whether a new tree that takes the inputs of so many steps, one after the other, gives the
+/// replies of the records; None where there is no memory, and where a step is not there.
 pub fn is_replayed<C: Channels + Lanes, D: Board<C>, B: Backend, R: Wait>(
     rt: &R,
     alloc: Global,

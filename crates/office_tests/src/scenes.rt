@@ -1,5 +1,8 @@
-//! Scenes of one thread, each written as one text: what is asked of offices, and what is to come of it.
-use crate::parts::{Log, Parts, new_log, new_parts, new_probe, new_tree, push_log, step_once};
+//! Scenes of one thread, each written as one text: what is asked of offices, and what is to come of
+//! it.
+use crate::parts::{
+    AskedLog, TestParts, new_log, new_parts, new_probe, new_tree, push_log, step_once,
+};
 use crate::stage::play_scene;
 use order_lanes::{Backend, Report};
 use s6_events::{Exit, NoMemory, Sid};
@@ -15,12 +18,13 @@ pub fn same<R: Abort>(rt: &R, found: &[u8], wanted: &str) {
     assert!(rt; text == wanted, "{text}");
 }
 
-// The scene comes out as it is written, and its backends were asked these orders; no orders are named where nobody can know them.
+// The scene comes out as it is written, and its backends were asked these orders; no orders are
+// named where nobody can know them.
 fn plays<B: Backend + Send, R: Threads + Wait + Clock + Abort + Copy + Send + Sync + Drop>(
     rt: &R,
     alloc: Global,
-    left: &mut Option<Parts<B>>,
-    log: &Log,
+    left: &mut Option<TestParts<B>>,
+    log: &AskedLog,
     scene: &str,
     orders: &str,
 ) {
@@ -93,7 +97,8 @@ fn lane_without_room_blocks_at_changed_limits(rt: HostRuntime) {
     plays_anew(rt, rt.alloc(), 1, BLOCKED, "3781, run 1 1 of web, another");
 }
 
-/// 60 commands of 63 signals each. A step may give 768 orders, and a lane holds 4,096: after 53 commands it has room for 756.
+/// 60 commands of 63 signals each. A step may give 768 orders, and a lane holds 4,096: after 53
+/// commands it has room for 756.
 const BLOCKED: &str = "> open 1
 > submit 1 0 0 scan web
 > submit 1 0 0 started 1 1 500
@@ -151,7 +156,8 @@ fn two_seats_make_one_run(rt: HostRuntime) {
     plays_anew(rt, rt.alloc(), 1, TWO_SEATS, "0");
 }
 
-/// Two seats submit 32 ticks each, in threads of their own. Then all is done in one drive, and the run is closed.
+/// Two seats submit 32 ticks each, in threads of their own. Then all is done in one drive, and the
+/// run is closed.
 const TWO_SEATS: &str = "> open 2
 > beside 32
 32 32
@@ -191,7 +197,7 @@ fn boxed_backend_gives_a_death_twice(rt: HostRuntime) {
     let mut backends = Vec::new(alloc);
     backends.push(boxed).ok().expect(&rt, "no room");
     let tree = new_tree(alloc).ok().expect(&rt, "no tree");
-    let mut left = Some(Parts { tree, backends });
+    let mut left = Some(TestParts { tree, backends });
     plays(&rt, alloc, &mut left, &log, REPORTS, "1, run 1 1 of web");
 }
 
@@ -414,7 +420,8 @@ fn desks_keep_their_order(rt: HostRuntime) {
     );
 }
 
-/// The close of an office of two lanes is refused three times. Each puts the desks back behind their locks.
+/// The close of an office of two lanes is refused three times. Each puts the desks back behind
+/// their locks.
 const DESKS: &str = "> open 1
 > submit 1 0 0 scan first second
 > drive 1
@@ -445,8 +452,8 @@ fn close_needs_every_finish(rt: HostRuntime) {
     );
 }
 
-/// Two seats submit an act each. The close is tried before the finishes are there, before the steps are made and before the orders are
-/// asked, and at last the office is closed.
+/// Two seats submit an act each. The close is tried before the finishes are there, before the steps
+/// are made and before the orders are asked, and at last the office is closed.
 const CLOSES: &str = "> open 2
 > submit 1 0 0 scan first second
 > submit 1 0 1 tick

@@ -31,7 +31,8 @@ fn submit_times<C: Channels>(alloc: Global, count: u64, line: &str, seat: &mut S
     is_taken
 }
 
-/// Submits an input: the line says how many times, and then has the line of a script. The seat of its actor is meant.
+/// Submits an input: the line says how many times, and then has the line of a script. The seat of
+/// its actor is meant.
 pub fn submit_many<C: Channels>(alloc: Global, rest: &str, seats: &mut Vec<Seat<C>>) -> bool {
     let (count, line) = rest.split_once(' ').unwrap_or(("", rest));
     let actor = line.split(' ').nth(1).unwrap_or("");
@@ -51,7 +52,8 @@ pub fn finish<C: Channels>(
     finishes.push(seat.finish()).ok()
 }
 
-/// The last two seats submit so many ticks each, in threads of their own. How many each sent is told.
+/// The last two seats submit so many ticks each, in threads of their own. How many each sent is
+/// told.
 pub fn submit_beside<C: Channels + Send + Sync, R: Threads + Sync>(
     rt: &R,
     count: &str,

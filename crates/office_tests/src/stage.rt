@@ -3,7 +3,7 @@ ghost use Rattle.std.specs.Prelude.{◌≡◌, ℕ, slice_get};
 ghost use Rattle.office.specs.Names.{ring_of, lane_ring_of, asked_of};
 
 use crate::opened::{Open, close, do_open};
-use crate::parts::Parts;
+use crate::parts::TestParts;
 use channel_names::Channels;
 use office::{NewOffice, OpenFault, Opened};
 use order_lanes::{Backend, Lanes};
@@ -16,13 +16,13 @@ use std::thread::Threads;
 use std::time::Clock;
 use tree_core::Tree;
 
-/// Plays a scene on what a run left or begins with, and writes it: each line that begins with `> `, and what came of it. `> open` and a
-/// number opens an office of so many actors on what the run before left. Where something was refused for want of memory, `no memory` comes
-/// last.
+/// Plays a scene on what a run left or begins with, and writes it: each line that begins with `> `,
+/// and what came of it. `> open` and a number opens an office of so many actors on what the run
+/// before left. Where something was refused for want of memory, `no memory` comes last.
 pub fn play_scene<B: Backend + Send, R: Threads + Wait + Clock + Copy + Send + Sync + Drop>(
     rt: &R,
     alloc: Global,
-    left: &mut Option<Parts<B>>,
+    left: &mut Option<TestParts<B>>,
     scene: &str,
     text: &mut Vec<u8>,
 ) {
@@ -37,7 +37,7 @@ pub fn play_scene<B: Backend + Send, R: Threads + Wait + Clock + Copy + Send + S
 fn play_next<B: Backend + Send, R: Threads + Wait + Clock + Copy + Send + Sync + Drop>(
     rt: &R,
     alloc: Global,
-    left: &mut Option<Parts<B>>,
+    left: &mut Option<TestParts<B>>,
     run: &str,
     text: &mut Vec<u8>,
 ) -> bool {
@@ -55,12 +55,12 @@ fn play_run<B: Backend + Send, R: Threads + Wait + Clock + Copy + Send + Sync + 
     rt: &R,
     alloc: Global,
     actors: usize,
-    parts: Parts<B>,
+    parts: TestParts<B>,
     lines: &str,
-    left: &mut Option<Parts<B>>,
+    left: &mut Option<TestParts<B>>,
     text: &mut Vec<u8>,
 ) -> bool {
-    let Parts { tree, backends } = parts;
+    let TestParts { tree, backends } = parts;
     let office = match NewOffice::new(alloc, tree, actors, backends) {
         Ok(office) => office,
         Err(refused) => return come_back(refused, left, text),
@@ -70,8 +70,9 @@ fn play_run<B: Backend + Send, R: Threads + Wait + Clock + Copy + Send + Sync + 
     is_written
 }
 
-// Plays a run that names the rings and the board of its office so: what it leaves, and whether there was memory. The lines come as bytes,
-// since a call picks no names for a function that takes a `&str`.
+// Plays a run that names the rings and the board of its office so: what it leaves, and whether
+// there was memory. The lines come as bytes, since a call picks no names for a function that takes
+// a `&str`.
 fn play_named<
     B: Backend + Send,
     C: Channels + Lanes + Send + Sync,
@@ -82,7 +83,7 @@ fn play_named<
     office: NewOffice<B>,
     lines: &[u8],
     text: &mut Vec<u8>,
-) -> (Option<Parts<B>>, bool)
+) -> (Option<TestParts<B>>, bool)
     requires seats { (k : ℕ) → C.seat_ring k ≡ ring_of (slice_get office.rings k) }
     requires board { C.board ≡ office.board }
     requires tree { C.opening ≡ office.tree }
@@ -102,12 +103,12 @@ fn play_named<
 // The parts came back: why, how many steps the tree has made, and how many backends there are.
 fn come_back<B: Backend>(
     refused: (OpenFault, Box<Tree<Global>>, Vec<B>),
-    left: &mut Option<Parts<B>>,
+    left: &mut Option<TestParts<B>>,
     text: &mut Vec<u8>,
 ) -> bool {
     let (fault, tree, backends) = refused;
     let (made, lanes) = (tree.steps(), backends.len());
-    *left = Some(Parts { tree, backends });
+    *left = Some(TestParts { tree, backends });
     writeln!(text, "{fault:?}, tree of {made}, {lanes} backends").is_ok()
 }
 
@@ -122,7 +123,7 @@ fn play_opened<
     alloc: Global,
     opened: Opened<C, D, B>,
     lines: &str,
-    left: &mut Option<Parts<B>>,
+    left: &mut Option<TestParts<B>>,
     text: &mut Vec<u8>,
 ) -> bool {
     let finishes = Vec::new(alloc);
@@ -141,7 +142,7 @@ fn play_lines<
     alloc: Global,
     lines: &str,
     open: &mut Option<Open<C, D, B>>,
-    left: &mut Option<Parts<B>>,
+    left: &mut Option<TestParts<B>>,
     text: &mut Vec<u8>,
 ) -> bool {
     for line in lines.split('\n') {
@@ -165,7 +166,7 @@ fn play_line<
     alloc: Global,
     asked: &str,
     open: &mut Option<Open<C, D, B>>,
-    left: &mut Option<Parts<B>>,
+    left: &mut Option<TestParts<B>>,
     text: &mut Vec<u8>,
 ) -> bool {
     let is_written = writeln!(text, "> {asked}").is_ok();

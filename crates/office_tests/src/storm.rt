@@ -164,7 +164,8 @@ fn next_input<C: Channels>(alloc: Global, seat: &Seat<C>) -> Option<Input<Global
     input_of(alloc, seat.actor(), number)
 }
 
-// Submits the input that was kept, or else the next one. It is kept, for a moment later, where the ring is full.
+// Submits the input that was kept, or else the next one. It is kept, for a moment later, where the
+// ring is full.
 fn submit_next<C: Channels, R: Wait + Clock>(
     rt: &R,
     alloc: Global,

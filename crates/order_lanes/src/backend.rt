@@ -15,20 +15,23 @@ pub enum AskFault {
     NoMemory = 2,
 }
 
-/// A backend carries out orders, and reports what became of them. A contract sees two lists of it: the orders that it took, and the reports
-/// that it gave. That an order is carried out is no promise.
+/// A backend carries out orders, and reports what became of them. A contract sees two lists of it:
+/// the orders that it took, and the reports that it gave. That an order is carried out is no
+/// promise.
 pub trait Backend: Drop {
     ghost asked: { Self → List Asked };
 
     ghost given: { Self → List Given };
 
-    /// Takes the order; or hands it back with a fault, and then it took none. It doesn't wait for what the order starts.
+    /// Takes the order; or hands it back with a fault, and then it took none. It doesn't wait for
+    /// what the order starts.
     fn ask(&mut self, order: Order) -> Result<(), (Order, AskFault)>
         ensures asked { OnOk result (asked self.new ≡ asked self.old ++ order ∷ []) }
         ensures back { IfErr result (λ e. (e.0 ≡ order) × (asked self.new ≡ asked self.old)) }
         ensures given { given self.new ≡ given self.old };
 
-    /// The next report, which is of a `run` or a `finish` whose start was asked here; None where there is none yet. It doesn't wait.
+    /// The next report, which is of a `run` or a `finish` whose start was asked here; None where
+    /// there is none yet. It doesn't wait.
     fn report(&mut self) -> Option<Report>
         ensures asked { asked self.new ≡ asked self.old }
         ensures given { IfSome result (λ r.

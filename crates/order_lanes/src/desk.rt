@@ -1,4 +1,4 @@
-//! The desk of a lane, where its backend, which starts and signals programs, is asked the orders from the lane's ring.
+//! The desk of a lane, where its backend is asked the orders from the lane's ring.
 ghost use Rattle.std.specs.Prelude.{◌≡◌, ◌↔◌, [], ◌∷◌, ◌++◌, Some, None, IfSome, IfNone, IsTrue};
 ghost use Rattle.rtrb.specs.Ring.{received, known_items};
 ghost use Rattle.channel_names.specs.RingName.{consumer_ring};
@@ -25,8 +25,8 @@ pub enum Carried {
     Refused(AskFault),
 }
 
-/// A lane's other end: it takes orders from the ring and asks them of a backend, in order. An order that the backend hands back is held,
-/// and asked again before any other.
+/// A lane's other end: it takes orders from the ring and asks them of a backend, in order. An order
+/// that the backend hands back is held, and asked again before any other.
 #[derive(Drop)]
 pub struct Desk<B: Backend, L: Lanes> {
     lane: usize,
@@ -76,7 +76,6 @@ impl<B: Backend, L: Lanes> Desk<B, L> {
         Desk {
             lane,
             consumer,
-            // The order that was taken from the ring and that the backend has not taken yet: none.
             held: None,
             backend,
             // It names the run in proofs, and has no bytes.
@@ -91,7 +90,8 @@ impl<B: Backend, L: Lanes> Desk<B, L> {
         self.lane
     }
 
-    // The next order: the one that is held, or else the oldest of the ring, which is held from now on; None where there is none.
+    // The next order: the one that is held, or else the oldest of the ring, which is held from now
+    // on; None where there is none.
     #[tactic(auto, using(crate::proofs::Turns::takes_next))]
     fn hold_next(&mut self) -> Option<Order>
         ensures rest { (self.new.lane ≡ self.old.lane) × (self.new.given ≡ self.old.given) }
@@ -157,7 +157,8 @@ impl<B: Backend, L: Lanes> Desk<B, L> {
     {
         // How many orders that were sent are still in the ring.
         let waiting = self.consumer.slots_beside(&mut lane.producer);
-        // An order was taken out of the ring, and the backend handed it back: it is still to be asked.
+        // An order was taken out of the ring, and the backend handed it back: it is still to be
+        // asked.
         if self.held.is_some() {
             return false;
         }

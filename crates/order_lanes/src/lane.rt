@@ -1,4 +1,4 @@
-//! The tree's end of a lane. A lane is a ring of orders to one backend, which starts and signals programs.
+//! The tree's end of a lane.
 ghost use Rattle.std.specs.Prelude.{◌≡◌, ◌+◌, ◌<◌, [], ◌∷◌, ◌++◌};
 ghost use Rattle.rtrb.specs.Ring.{sent, known_free, producer_capacity};
 ghost use Rattle.channel_names.specs.RingName.{producer_ring};
@@ -9,7 +9,8 @@ use rtrb::Producer;
 use s6_events::Order;
 use std::marker::{Model, PhantomData};
 
-/// The tree's end of a lane, where its orders are sent, in order. Its calls take no lock and no memory.
+/// The tree's end of a lane, where its orders are sent, in order. Its calls take no lock and no
+/// memory.
 #[derive(Drop)]
 pub struct Lane<L: Lanes> {
     number: usize,
@@ -57,7 +58,8 @@ impl<L: Lanes> Lane<L> {
         self.number
     }
 
-    /// How many more orders there is room for, at the least: the desk may make more room at any time.
+    /// How many more orders there is room for, at the least: the desk may make more room at any
+    /// time.
     pub fn free_places(&mut self) -> usize
         ensures number { self.new.number ≡ self.old.number }
         ensures sent { self.new.sent ≡ self.old.sent }

@@ -1,4 +1,4 @@
-//! Which lane takes an order, and whether it has room. A lane is a ring of orders to one backend, which starts and signals programs.
+//! Which lane takes an order, and whether it has room.
 ghost use Rattle.std.specs.Prelude.{◌≡◌, ◌<◌, ◌+◌, ◌++◌, ◌∷◌, [], ℕ, length, IfSome, IfNone};
 ghost use Rattle.order_lanes.specs.LaneOrders.{sid_of, lane_of, orders_of_lane};
 ghost use Rattle.order_lanes.specs.Lane.{sent_in, HaveRoom, IsBlocked};
@@ -7,7 +7,8 @@ use crate::lane::Lane;
 use crate::lanes::Lanes;
 use s6_events::Order;
 
-/// The least lane that has fewer than `places` free places, as far as is known; None where each lane has at least as many.
+/// The least lane that has fewer than `places` free places, as far as is known; None where each
+/// lane has at least as many.
 pub fn blocked_lane<L: Lanes>(lanes: &mut Vec<Lane<L>>, places: usize) -> Option<usize>
     ensures sent { (k : ℕ) → sent_in k lanes.new.items ≡ sent_in k lanes.old.items }
     ensures len { length lanes.new.items ≡ length lanes.old.items }
@@ -43,7 +44,8 @@ pub fn lane_of(order: &Order, lanes: usize) -> usize
     (sid_of_order(order) % (lanes as u64)) as usize
 }
 
-// Sends an order into its lane: that of its service, which `lane_of` tells by how many lanes there are.
+// Sends an order into its lane: that of its service, which `lane_of` tells by how many lanes there
+// are.
 fn send_one<L: Lanes>(lanes: &mut Vec<Lane<L>>, order: &Order)
     requires lanes { 0 < length lanes.old.items }
     requires room { HaveRoom 1 lanes.old.items }

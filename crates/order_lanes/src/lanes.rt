@@ -1,9 +1,10 @@
 //! Which tree a run begins with, and which rings and backends its lanes have.
 use std::marker::Brand;
 
-/// For proofs: which tree a run begins with, which ring each of its lanes has, and which orders the lane's backend had taken before. The
-/// tree's end of a lane and the lane's desk have such a type as parameter, so a contract knows that they belong together, and to which run.
-/// A run picks the type once its rings are made.
+/// For proofs: which tree a run begins with, which ring each of its lanes has, and which orders the
+/// lane's backend had taken before. The tree's end of a lane and the lane's desk have such a type
+/// as parameter, so a contract knows that they belong together, and to which run. A run picks the
+/// type once its rings are made.
 pub trait Lanes {
     ghost use Rattle.std.specs.Prelude.{ℕ, List};
     ghost use Rattle.channel_names.specs.RingName.{RingName};
@@ -24,7 +25,8 @@ pub trait Lanes {
     ghost asked_before: { ℕ → List Order };
 }
 
-// The names before a program made anything: of no tree, no history and no ring. What it makes then has names of its own, in place of these.
+// The names before a program made anything: of no tree, no history and no ring. What it makes then
+// has names of its own, in place of these.
 impl Lanes for Brand {
     ghost use Rattle.std.specs.Prelude.{[]};
     ghost use Rattle.channel_names.specs.Unnamed.{no_ring};

@@ -1,4 +1,5 @@
-//! How orders leave the tree: a ring for each lane, and a backend that is asked the orders from it.
+//! How orders leave the tree, by lanes. A lane is a ring of orders to one backend, which starts and
+//! signals programs.
 #![tactic(auto)]
 
 mod backend;

@@ -9,7 +9,8 @@ use std::marker::Model;
 use std::snapshot::Snapshot;
 use std::sync::{Arc, Mutex, Wait};
 
-/// A backend that writes down what it is asked, and gives reports that it got when it was made. It first answers `Busy` a number of times.
+/// A backend that writes down what it is asked, and gives reports that it got when it was made. It
+/// first answers `Busy` a number of times.
 #[derive(Drop)]
 pub struct Probe<R> {
     rt: R,
@@ -35,8 +36,8 @@ impl<R> Model for Probe<R> {
 }
 
 impl<R> Probe<R> {
-    /// A backend that answers `Busy` the first `busy` times, and writes each later order into `log` too. It gives the reports in their
-    /// order.
+    /// A backend that answers `Busy` the first `busy` times, and writes each later order into `log`
+    /// too. It gives the reports in their order.
     pub fn new(
         rt: R,
         alloc: Global,
@@ -53,7 +54,6 @@ impl<R> Probe<R> {
             rt,
             waiting,
             busy,
-            // The orders that it took, and, for contracts alone, the reports that it gave.
             asked: Vec::new(alloc),
             given: Vec::new(alloc),
             log,
@@ -68,7 +68,8 @@ impl<R: Wait + Drop> Probe<R> {
             (self.new ≡ record self.old { asked = self.old.asked ++ order.now ∷ [] }) }
         ensures same { OnErr result (self.new ≡ self.old) }
     {
-        // Room for `asked` comes first: then only the push into `log` can be refused, and neither list has the order.
+        // Room for `asked` comes first: then only the push into `log` can be refused, and neither
+        // list has the order.
         self.asked.reserve(1)?;
         self.log.lock(&self.rt).push(*order)?;
         self.asked.push_reserved(*order);
@@ -81,7 +82,8 @@ impl<R: Wait + Drop> Backend for Probe<R> {
 
     ghost given = { λ p. p.given };
 
-    /// `Busy` as often as it was made to; `NoMemory` where memory for one of the two lists is refused, and then neither has the order.
+    /// `Busy` as often as it was made to; `NoMemory` where memory for one of the two lists is
+    /// refused, and then neither has the order.
     fn ask(&mut self, order: Order) -> Result<(), (Order, AskFault)> {
         if self.busy > 0 {
             self.busy -= 1;
@@ -93,7 +95,8 @@ impl<R: Wait + Drop> Backend for Probe<R> {
         }
     }
 
-    /// The first report that waits and whose start was asked. Those before it, whose start wasn't asked, are dropped.
+    /// The first report that waits and whose start was asked. Those before it, whose start wasn't
+    /// asked, are dropped.
     fn report(&mut self) -> Option<Report> {
         for _ in 0..self.waiting.len() {
             // Where memory is refused, no report is given, and the next one still waits.

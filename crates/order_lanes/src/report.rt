@@ -1,4 +1,5 @@
-//! What a report of a backend is about: the act that tells the tree of it, and the orders that it answers.
+//! What a report of a backend is about: the act that tells the tree of it, and the orders that it
+//! answers.
 ghost use Rattle.std.specs.Prelude.{◌≡◌, ◌↔◌, IsTrue};
 ghost use Rattle.std.specs.List.{list_any};
 ghost use Rattle.order_lanes.specs.Report.{act_of};
@@ -35,7 +36,8 @@ pub fn act_of(report: &Report) -> Act<Global>
     }
 }
 
-// Whether the report may be of `run` of this service and generation. That of a failed start may be of `run` or of `finish`.
+// Whether the report may be of `run` of this service and generation. That of a failed start may be
+// of `run` or of `finish`.
 fn is_of_run(service: Sid, number: u64, report: &Report) -> bool
     ensures { result ≡ is_of_run service number report.now }
 {
@@ -48,7 +50,8 @@ fn is_of_run(service: Sid, number: u64, report: &Report) -> bool
     }
 }
 
-// Whether the report may be of `finish` of this service and generation. That of a failed start may be of `run` or of `finish`.
+// Whether the report may be of `finish` of this service and generation. That of a failed start may
+// be of `run` or of `finish`.
 fn is_of_finish(service: Sid, number: u64, report: &Report) -> bool
     ensures { result ≡ is_of_finish service number report.now }
 {

@@ -1,4 +1,4 @@
-//! New rings of lanes. A lane is a ring of orders to one backend, which starts and signals programs.
+//! New rings of lanes.
 ghost use Rattle.std.specs.Prelude.{◌≡◌, ◌≤◌, [], None, IfOk, length};
 ghost use Rattle.order_lanes.specs.Lane.{lane_room, AreNumbered};
 
@@ -14,7 +14,8 @@ use std::marker::Model;
 /// How many orders a lane's ring holds.
 pub const LANE_ROOM: usize = 4096;
 
-/// A lane's new ring, through which nothing went yet. A run makes its two ends once it has picked the names of its rings.
+/// A lane's new ring, through which nothing went yet. A run makes its two ends once it has picked
+/// the names of its rings.
 #[derive(Drop)]
 pub struct LaneRing {
     number: usize,
@@ -43,7 +44,8 @@ impl LaneRing {
     fn open(alloc: Global, number: usize) -> Result<LaneRing, NoMemory>
         ensures { IfOk result (λ r. r.number ≡ number) }
     {
-        // The tree pushes orders at the one end, and the desk of the lane's backend pops them at the other.
+        // The tree pushes orders at the one end, and the desk of the lane's backend pops them at
+        // the other.
         let (producer, consumer) = RingBuffer::new(alloc, LANE_ROOM)?;
         Ok(LaneRing {
             number,
@@ -59,7 +61,8 @@ impl LaneRing {
         self.number
     }
 
-    /// Makes the ring's two ends: the lane, and the desk of this backend. `L` names this ring as that of the lane.
+    /// Makes the ring's two ends: the lane, and the desk of this backend. `L` names this ring as
+    /// that of the lane.
     pub fn ends<B: Backend, L: Lanes>(self, backend: B) -> (Lane<L>, Desk<B, L>)
         requires ring { self.ring ≡ L.lane_ring self.number }
         requires before { B.asked backend ≡ L.asked_before self.number }
@@ -85,8 +88,8 @@ impl LaneRing {
     }
 }
 
-/// A new ring for each of `lanes` lanes, 1 to 4, in the order of their numbers, which begin at 0. `NoMemory` where memory is refused;
-/// nothing is kept then.
+/// A new ring for each of `lanes` lanes, 1 to 4, in the order of their numbers, which begin at 0.
+/// `NoMemory` where memory is refused; nothing is kept then.
 #[tactic(auto, using(crate::proofs::Numbers::numbered_more))]
 pub fn open_lane_rings(alloc: Global, lanes: usize) -> Result<Vec<LaneRing>, NoMemory>
     requires { (1 ≤ lanes) × (lanes ≤ 4) }

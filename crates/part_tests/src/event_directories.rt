@@ -1,7 +1,7 @@
 //! Event directories by their public calls: matches, refusals, plans and refused memory.
 ghost use Rattle.std.specs.Prelude.{◌≡◌, ◌≤◌, ◌<◌, ◌+◌, ◌^◌, [], nat_le, length, sum};
 
-use crate::shared::{Counts, letter, new_heap};
+use crate::shared::{TrialCounts, letter, new_heap};
 use event_directory::{
     Directories, Directory, DirectoryAnswer, DirectoryChange, DirectoryFault, Finds, Hit, Message,
     Pattern, Source, State,
@@ -73,7 +73,8 @@ fn wants_heard<A: Allocator + Copy, R: Abort>(
     assert!(rt; is_heard && view.state == state, "{letters} and {state:?}");
 }
 
-// From how many letters on a text matches, whether again and again, how many letters are sent; the state and the list then.
+// From how many letters on a text matches, whether again and again, how many letters are sent; the
+// state and the list then.
 type Sent = (usize, bool, u32, State, &'static str);
 
 fn send_and_hear<R: Abort>(rt: &R, directory: &mut Directory<AtLeast, Global>, row: &Sent)
@@ -170,7 +171,7 @@ fn are_answered<A: Allocator + Copy>(
 #[test]
 fn a_refused_growth_is_told(rt: HostRuntime) {
     let a = letter(&rt, b'a');
-    let mut counts = Counts::new();
+    let mut counts = TrialCounts::new();
     for step in 0..120usize {
         let heap = new_heap(&rt, rt.alloc(), 16 * step);
         counts.add(&rt, are_answered(&mut Directory::new(&heap), a));
@@ -215,7 +216,8 @@ fn refuse<'h, R: Abort>(
     }
 }
 
-// A plan of two letters, a letter or another plan that is refused, and then a commit of the plan: it hears its own letters.
+// A plan of two letters, a letter or another plan that is refused, and then a commit of the plan:
+// it hears its own letters.
 fn plan_and_refuse<'h, R: Abort>(
     rt: &R,
     alloc: Global,
@@ -260,7 +262,8 @@ fn plan_over_a_plan<R: Abort>(rt: &R, directory: &mut Directory<AtLeast, Global>
     directory.commit(first);
 }
 
-// Once a letter is sent, a plan that was made before hears nothing; nor does a plan that is committed when another was.
+// Once a letter is sent, a plan that was made before hears nothing; nor does a plan that is
+// committed when another was.
 #[test]
 fn a_plan_is_heard_once(rt: HostRuntime) {
     let mut directory = Directory::new(rt.alloc());
@@ -318,7 +321,7 @@ fn stands<A: Allocator + Copy>(
 
 // What the steps speak of.
 #[derive(Drop)]
-struct Words {
+struct StepWords {
     name: Name,
     other: Name,
     three: Message,
@@ -326,9 +329,9 @@ struct Words {
     letters: [Letter; 2],
 }
 
-impl Words {
-    fn new<R: Abort>(rt: &R) -> Words {
-        Words {
+impl StepWords {
+    fn new<R: Abort>(rt: &R) -> StepWords {
+        StepWords {
             name: Name::new(b"events").expect(rt, "a name"),
             other: Name::new(b"others").expect(rt, "a name"),
             three: Message::new(b"xyz").expect(rt, "a message"),
@@ -353,7 +356,8 @@ fn makes<A: Allocator + Copy>(
     Ok(made && refused)
 }
 
-// Two subscriptions are made, to the free directory and to a service, and none to a directory that isn't there.
+// Two subscriptions are made, to the free directory and to a service, and none to a directory that
+// isn't there.
 fn subscribes<A: Allocator + Copy>(
     directories: &mut Directories<AtLeast, A>,
     name: Name,
@@ -387,7 +391,7 @@ fn subscribes<A: Allocator + Copy>(
 // A message of three letters, after two moments; then one of one letter.
 fn hears<A: Allocator + Copy>(
     directories: &mut Directories<AtLeast, A>,
-    words: &Words,
+    words: &StepWords,
 ) -> Result<bool, NoMemory>
     requires { directories.old.shown.next < 200 }
     ensures { directories.new.shown.next < 300 }
@@ -437,11 +441,12 @@ fn is_second_left<A: Allocator + Copy>(directories: &Directories<AtLeast, A>) ->
     directories.list(SubId(1)).is_none() && directories.list(SubId(2)).is_some()
 }
 
-// A run of all of them, and whether each step was answered as it is to be: of `xyz` and then `w` a subscription to each two letters
-// hears `y` and `w`; one to the first letter of service 7 hears its `U`.
+// A run of all of them, and whether each step was answered as it is to be: of `xyz` and then `w` a
+// subscription to each two letters hears `y` and `w`; one to the first letter of service 7 hears
+// its `U`.
 fn runs_through<A: Allocator + Copy>(
     directories: &mut Directories<AtLeast, A>,
-    words: &Words,
+    words: &StepWords,
 ) -> Result<bool, NoMemory>
     requires { directories.old.shown.next < 100 }
 {
@@ -454,15 +459,15 @@ fn runs_through<A: Allocator + Copy>(
 
 #[test]
 fn subscriptions_hear_their_sources(rt: HostRuntime) {
-    let right = runs_through(&mut Directories::new(rt.alloc()), &Words::new(&rt));
+    let right = runs_through(&mut Directories::new(rt.alloc()), &StepWords::new(&rt));
     assert!(rt; right == Ok(true));
 }
 
 // On heaps of a growing size each growth is the first one refused.
 #[test]
 fn a_refused_step_is_told(rt: HostRuntime) {
-    let words = Words::new(&rt);
-    let mut counts = Counts::new();
+    let words = StepWords::new(&rt);
+    let mut counts = TrialCounts::new();
     for step in 0..240usize {
         let heap = new_heap(&rt, rt.alloc(), 32 * step);
         counts.add(&rt, runs_through(&mut Directories::new(&heap), &words));

@@ -8,7 +8,8 @@ use std::process::Abort;
 
 const LAST_MOMENT: u64 = 1_000_000_000_000_000;
 
-// The number of the moment one millisecond later, of the actor, and of the letter, where there is one.
+// The number of the moment one millisecond later, of the actor, and of the letter, where there is
+// one.
 fn after(millis: u64) -> Option<u64> {
     Some(At::new(millis)?.later(1))
 }

@@ -33,8 +33,9 @@ fn builds_what_it_can(rt: HostRuntime) {
     wants_pattern(&rt, alloc, &long, None);
 }
 
-// A letter costs at most 261: as much as with `a{256}`, of which five are of the search around it. A choice costs two, an assertion five, a set of
-// seven ranges three, and all of it twice where there is an assertion: `a{120}\b` costs 260. The tables of a pattern take at most 16,384 bytes:
+// A letter costs at most 261: as much as with `a{256}`, of which five are of the search around it.
+// A choice costs two, an assertion five, a set of seven ranges three, and all of it twice where
+// there is an assertion: `a{120}\b` costs 260. The tables of a pattern take at most 16,384 bytes:
 // `.` takes some 200 of them.
 #[test]
 fn a_pattern_past_the_limits_is_refused(rt: HostRuntime) {

@@ -1,4 +1,5 @@
-//! What the tests share: values that are there, and the counts of what was refused and of what was done.
+//! What the tests share: values that are there, and the counts of what was refused and of what was
+//! done.
 use linked_list_allocator::LocalHeap;
 use s6_events::{At, Letter, NoMemory};
 use std::alloc::Global;
@@ -21,15 +22,15 @@ pub fn new_heap<R: Abort>(rt: &R, alloc: Global, bytes: usize) -> LocalHeap {
 
 /// Of trials on heaps of a growing size, how many were refused a growth, and how many were done.
 #[derive(Clone, Copy)]
-pub struct Counts {
+pub struct TrialCounts {
     refused: u32,
     done: u32,
 }
 
-impl Counts {
+impl TrialCounts {
     /// No trial yet.
-    pub fn new() -> Counts {
-        Counts {
+    pub fn new() -> TrialCounts {
+        TrialCounts {
             refused: 0,
             done: 0,
         }
@@ -48,7 +49,7 @@ impl Counts {
 
     /// More than so many were refused, and more than so many were done.
     pub fn wants_more_than<R: Abort>(self, rt: &R, least: u32) {
-        let Counts { refused, done } = self;
+        let TrialCounts { refused, done } = self;
         assert!(rt; refused > least && done > least, "{refused} {done}");
     }
 }

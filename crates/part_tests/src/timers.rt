@@ -1,5 +1,5 @@
 //! Deadlines by their public calls.
-use crate::shared::{Counts, at, new_heap};
+use crate::shared::{TrialCounts, at, new_heap};
 use deadlines::{Deadlines, TimerChange};
 use s6_events::{At, NoMemory, Sid};
 use std::alloc::{Allocator, Global};
@@ -27,7 +27,8 @@ fn wants_due<R: Abort>(
 
 #[test]
 fn due_services_come_in_rising_serial(rt: HostRuntime) {
-    // A service, the moment to which its timer is set, or none where it is cleared, and which are due at a moment then.
+    // A service, the moment to which its timer is set, or none where it is cleared, and which are
+    // due at a moment then.
     let rows: &[(u64, Option<u64>, u64, &[Sid])] = &[
         (1, Some(1300), 1299, &[]),
         (1, Some(1300), 1300, &[Sid(1)]),
@@ -74,7 +75,7 @@ fn are_due_after_a_plan<A: Allocator + Copy>(alloc: A) -> Result<bool, NoMemory>
 // On heaps of a growing size each growth is the first one refused.
 #[test]
 fn a_refused_growth_is_told(rt: HostRuntime) {
-    let mut counts = Counts::new();
+    let mut counts = TrialCounts::new();
     for step in 0..80usize {
         let heap = new_heap(&rt, rt.alloc(), 16 * step);
         counts.add(&rt, are_due_after_a_plan(&heap));

@@ -1,7 +1,7 @@
 //! Waiters by their public calls: releases, refusals, plans and refused memory.
 ghost use Rattle.std.specs.Prelude.{◌≡◌, ◌<◌, ◌+◌, ◌≤◌, ◌^◌, length};
 
-use crate::shared::{Counts, at, new_heap};
+use crate::shared::{TrialCounts, at, new_heap};
 use s6_events::{At, Condition, Mark, Mode, Moment, NoMemory, Sid, WaitId};
 use std::alloc::{Allocator, Global};
 use std::process::Abort;
@@ -25,8 +25,8 @@ fn add<R: Abort>(rt: &R, moments: &mut Vec<Moment>, moment: Moment) {
     assert!(rt; added);
 }
 
-// The marks by their letters, of service 1 or, after a 2, of service 2 until a 1; a dot is a clock reading 100 ms later, and a dash
-// nothing.
+// The marks by their letters, of service 1 or, after a 2, of service 2 until a 1; a dot is a clock
+// reading 100 ms later, and a dash nothing.
 fn moments_of<R: Abort>(rt: &R, alloc: Global, text: &str) -> Vec<Moment> {
     let mut moments = Vec::new(alloc);
     let mut sid = Sid(1);
@@ -100,7 +100,7 @@ fn first_release<R: Abort>(
 
 // A waiter for some services, with the marks before it and since.
 #[derive(Clone, Copy)]
-struct Waiter<'a> {
+struct WaiterCase<'a> {
     condition: Condition,
     mode: Mode,
     sids: &'a [Sid],
@@ -108,11 +108,12 @@ struct Waiter<'a> {
     since: &'a [Moment],
 }
 
-// It is made at 0 with a timeout of 500: after how many moments since it is released, and with what verdict.
+// It is made at 0 with a timeout of 500: after how many moments since it is released, and with what
+// verdict.
 fn released_after<R: Abort>(
     rt: &R,
     waits: &mut Waits<Global>,
-    waiter: &Waiter,
+    waiter: &WaiterCase,
 ) -> Option<(usize, Verdict)>
     requires { waits.old.next ≡ 1 }
 {
@@ -124,8 +125,8 @@ fn released_after<R: Abort>(
     }
 }
 
-// A row each: the letters of a condition and of a mode, the services, the marks before the waiter and since; after how many moments it is
-// released, and how.
+// A row each: the letters of a condition and of a mode, the services, the marks before the waiter
+// and since; after how many moments it is released, and how.
 const RELEASES: &str = "u a 1 su - 0:Held
 u a 1 s u 1:Held
 U a 1 su dDuU 4:Held
@@ -183,7 +184,7 @@ fn wants_release<R: Abort>(rt: &R, alloc: Global, words: &[&str]) {
     let past = moments_of(rt, alloc, words[3]);
     let since = moments_of(rt, alloc, words[4]);
     let sids = numbered(rt, alloc, words[2].len() as u64);
-    let waiter = Waiter {
+    let waiter = WaiterCase {
         condition: condition_of(words[0]),
         mode: mode_of(words[1]),
         sids: sids.as_slice(),
@@ -300,7 +301,7 @@ fn are_released<A: Allocator + Copy>(waits: &mut Waits<A>) -> Result<bool, NoMem
 // On heaps of a growing size each growth is the first one refused.
 #[test]
 fn a_refused_growth_is_told(rt: HostRuntime) {
-    let mut counts = Counts::new();
+    let mut counts = TrialCounts::new();
     for step in 0..100usize {
         let heap = new_heap(&rt, rt.alloc(), 64 * step);
         counts.add(&rt, are_released(&mut Waits::new(&heap)));
@@ -318,7 +319,7 @@ fn stands<A: Allocator + Copy>(waits: &Waits<A>) -> [Option<WaitState>; 3] {
 }
 
 // A step: its moments by their letters and its change, then what it releases, answers and leaves.
-type Row<'a> = (
+type StepRow<'a> = (
     &'a str,
     WaitChange<'a>,
     &'a [(WaitId, Verdict)],
@@ -326,8 +327,14 @@ type Row<'a> = (
     [Option<WaitState>; 3],
 );
 
-// The step of these moments is prepared, which shows nothing, and made: whether it gives what the row says.
-fn is_step_as<R: Abort>(rt: &R, waits: &mut Waits<Global>, moments: &[Moment], row: &Row) -> bool
+// The step of these moments is prepared, which shows nothing, and made: whether it gives what the
+// row says.
+fn is_step_as<R: Abort>(
+    rt: &R,
+    waits: &mut Waits<Global>,
+    moments: &[Moment],
+    row: &StepRow,
+) -> bool
     requires { waits.old.next < 2 ^ 63 }
     ensures { waits.new.next ≤ waits.old.next + 1 }
 {
@@ -341,7 +348,7 @@ fn is_step_as<R: Abort>(rt: &R, waits: &mut Waits<Global>, moments: &[Moment], r
     is_released && is_answered && is_hidden && stands(waits) == *after
 }
 
-fn takes_step<R: Abort>(rt: &R, alloc: Global, waits: &mut Waits<Global>, row: &Row)
+fn takes_step<R: Abort>(rt: &R, alloc: Global, waits: &mut Waits<Global>, row: &StepRow)
     requires { waits.old.next < 2 ^ 63 }
     ensures { waits.new.next ≤ waits.old.next + 1 }
 {
@@ -350,7 +357,7 @@ fn takes_step<R: Abort>(rt: &R, alloc: Global, waits: &mut Waits<Global>, row: &
     assert!(rt; is_right, "{} {:?}", row.0, row.3);
 }
 
-fn take_steps<R: Abort>(rt: &R, alloc: Global, waits: &mut Waits<Global>, rows: &[Row])
+fn take_steps<R: Abort>(rt: &R, alloc: Global, waits: &mut Waits<Global>, rows: &[StepRow])
     requires few { length rows.now < 1000 }
     requires next { waits.old.next ≡ 1 }
 {
@@ -367,7 +374,7 @@ fn a_step_is_prepared_and_made(rt: HostRuntime) {
     let one: &[Sid] = &[Sid(1)];
     let two: &[Sid] = &[Sid(2)];
     // In the third step service 1 is up for one moment.
-    let rows: &[Row] = &[
+    let rows: &[StepRow] = &[
         (
             "1s2s",
             WaitChange::Add(Condition::Ready, Mode::All, two, 0, start),
@@ -416,7 +423,7 @@ fn a_step_is_prepared_and_made(rt: HostRuntime) {
 
 // How a step ends that releases a waiter and makes another, where memory may be wanting.
 #[derive(Clone, Copy)]
-enum Ending {
+enum StepEnding {
     Unmade,
     Refused,
     Made,
@@ -424,12 +431,12 @@ enum Ending {
 }
 
 // This ending, where all was right.
-fn ending_if(is_right: bool, ending: Ending) -> Ending {
-    if is_right { ending } else { Ending::Other }
+fn ending_if(is_right: bool, ending: StepEnding) -> StepEnding {
+    if is_right { ending } else { StepEnding::Other }
 }
 
 // Prepares the step, which shows nothing, and makes it.
-fn make_step<A: Allocator + Copy>(waits: &mut Waits<A>) -> Ending
+fn make_step<A: Allocator + Copy>(waits: &mut Waits<A>) -> StepEnding
     requires { waits.old.next < 2 ^ 63 }
 {
     let before = stands(waits);
@@ -441,33 +448,33 @@ fn make_step<A: Allocator + Copy>(waits: &mut Waits<A>) -> Ending
         Ok(plan) => {
             let released = plan.released().len();
             waits.commit(plan);
-            ending_if(is_hidden && released == 1, Ending::Made)
+            ending_if(is_hidden && released == 1, StepEnding::Made)
         }
-        Err(_) => ending_if(is_hidden, Ending::Refused),
+        Err(_) => ending_if(is_hidden, StepEnding::Refused),
     }
 }
 
 // The same where a waiter for service 1 stands.
-fn ending_of<A: Allocator + Copy>(waits: &mut Waits<A>) -> Ending
+fn ending_of<A: Allocator + Copy>(waits: &mut Waits<A>) -> StepEnding
     requires { waits.old.next ≡ 1 }
 {
     match add_waiter(waits, Mode::All, &[Sid(1)]) {
         Ok(_) => make_step(waits),
-        Err(NoMemory) => Ending::Unmade,
+        Err(NoMemory) => StepEnding::Unmade,
     }
 }
 
 // On heaps of a growing size each growth of the step is the first one refused.
 #[test]
 fn a_refused_step_leaves_what_is_shown(rt: HostRuntime) {
-    let mut counts = Counts::new();
+    let mut counts = TrialCounts::new();
     for step in 0..100usize {
         let heap = new_heap(&rt, rt.alloc(), 64 * step);
         match ending_of(&mut Waits::new(&heap)) {
-            Ending::Unmade => {}
-            Ending::Refused => counts.add(&rt, Err(NoMemory)),
-            Ending::Made => counts.add(&rt, Ok(true)),
-            Ending::Other => counts.add(&rt, Ok(false)),
+            StepEnding::Unmade => {}
+            StepEnding::Refused => counts.add(&rt, Err(NoMemory)),
+            StepEnding::Made => counts.add(&rt, Ok(true)),
+            StepEnding::Other => counts.add(&rt, Ok(false)),
         }
     }
     counts.wants_more_than(&rt, 2);

@@ -1,4 +1,5 @@
-//! The memory of waiters is bounded by the services and waiters that stand, and not by how many came and went.
+//! The memory of waiters is bounded by the services and waiters that stand, and not by how many
+//! came and went.
 
 use crate::shared::new_heap;
 use linked_list_allocator::LocalHeap;

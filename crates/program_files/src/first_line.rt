@@ -1,4 +1,5 @@
-//! What the first line of a program says: which interpreter runs it. Linux looks at it where the program is no binary: execve(2).
+//! What the first line of a program says: which interpreter runs it. Linux looks at it where the
+//! program is no binary: execve(2).
 ghost use Rattle.std.specs.Prelude.{◌≡◌, ◌<◌, IfSome, length, not, option_map, position};
 ghost use Rattle.program_files.specs.FirstLine.{is_binary, is_newline, first_line, is_blank, is_end, without_blanks, first_word, word_behind, interpreter_in, interpreter_of, fault_of_line, fault_of_text};
 
@@ -17,8 +18,8 @@ pub fn fault_of_text(text: &[u8]) -> Option<ProgramFault>
     fault_of_line(first_line(text))
 }
 
-/// The path of the interpreter that runs a program of this text; None where it is a binary, or its first line names none. The path is bytes, and
-/// may be relative.
+/// The path of the interpreter that runs a program of this text; None where it is a binary, or its
+/// first line names none. The path is bytes, and may be relative.
 pub fn interpreter_of(text: &[u8]) -> Option<&[u8]>
     ensures { option_map (λ path. path.now) result ≡ interpreter_of text.now }
 {
@@ -66,7 +67,8 @@ fn newline_in(text: &[u8]) -> Option<usize>
     text.iter().position(|byte| *byte == b'\n')
 }
 
-// The interpreter that a first line names: the first word behind `#!`. None where it doesn't begin so, or there is no word.
+// The interpreter that a first line names: the first word behind `#!`. None where it doesn't begin
+// so, or there is no word.
 fn interpreter_in(line: &[u8]) -> Option<&[u8]>
     ensures { option_map (λ path. path.now) result ≡ interpreter_in line.now }
 {

@@ -1,4 +1,5 @@
-//! The programs of a service: whether a file can be executed, and which interpreter its first line names.
+//! The programs of a service: whether a file can be executed, and which interpreter its first line
+//! names.
 #![tactic(auto)]
 
 mod first_line;

@@ -1,4 +1,5 @@
-//! What is wrong with the programs of a service, `run` and `finish`, and with the interpreters that their first lines name.
+//! What is wrong with the programs of a service, `run` and `finish`, and with the interpreters that
+//! their first lines name.
 ghost use Rattle.std.specs.Prelude.{◌≡◌};
 ghost use Rattle.program_files.specs.Programs.{fault_of_program, fault_of_interpreter};
 
@@ -25,8 +26,9 @@ pub enum FileState {
     Unknown,
 }
 
-/// What is wrong with the program of this name in a service's directory: first with the file, then with what it says. `text` is what was read of
-/// it, if anything. The error says that memory was refused.
+/// What is wrong with the program of this name in a service's directory: first with the file, then
+/// with what it says. `text` is what was read of it, if anything. The error says that memory was
+/// refused.
 pub fn program_faults<R: Files>(
     rt: &R,
     alloc: Global,
@@ -60,8 +62,9 @@ fn text_fault<R: Files>(
     }
 }
 
-/// Whether a program of this directory whose text begins so can't be started, since its first line names an interpreter that isn't there, or that
-/// nobody may execute. The error says that memory was refused.
+/// Whether a program of this directory whose text begins so can't be started, since its first line
+/// names an interpreter that isn't there, or that nobody may execute. The error says that memory
+/// was refused.
 pub fn lacks_interpreter<R: Files>(
     rt: &R,
     alloc: Global,
@@ -74,7 +77,8 @@ pub fn lacks_interpreter<R: Files>(
     }
 }
 
-// What is wrong with the interpreter of this path, which a program of this directory names. Of one whose path isn't UTF-8 nothing is said.
+// What is wrong with the interpreter of this path, which a program of this directory names. Of one
+// whose path isn't UTF-8 nothing is said.
 fn interpreter_fault<R: Files>(
     rt: &R,
     alloc: Global,

@@ -25,7 +25,8 @@ const SECOND: &str = "0 1 started 1 1 500
 7 1 finished 1 1 code 0
 8 1 started 2 1 501";
 
-/// Submits the acts of both seats, and then ticks, until each has submitted 32. What is refused is asked for again.
+/// Submits the acts of both seats, and then ticks, until each has submitted 32. What is refused is
+/// asked for again.
 pub fn submit_all<C: Channels>(alloc: Global, seats: &mut [Seat<C>]) -> u32 {
     let mut refusals = 0u32;
     for (seat, lines) in seats.iter_mut().zip([FIRST, SECOND].iter()) {

@@ -1,10 +1,10 @@
 //! Each part of the trial is made again where memory was refused.
 use arrayvec::ArrayVec;
-use s6_events::NoMemory;
+use s6_events::{NoMemory, Order, Sid};
 use std::io::Write;
 
 /// What is printed. It takes no memory.
-pub type Text = ArrayVec<u8, 16_384>;
+pub type Text = ArrayVec<u8, 24_576>;
 
 /// What came of the attempts so far.
 #[derive(Drop)]
@@ -42,14 +42,22 @@ impl Attempts {
         let _ = self.text.try_extend_from_slice(bytes);
     }
 
-    /// Tells of the state that was published last: after how many steps, and how many services it shows.
-    pub fn tell_shot(&mut self, at: u64, rows: usize) {
-        let _ = writeln!(self.text, "shown {at}, {rows} rows");
-    }
-
-    /// Tells how many steps a run made that was closed, and how many its tree has made.
-    pub fn tell_closed(&mut self, steps: u64, made: u64) {
-        let _ = writeln!(self.text, "closed {steps}, tree of {made}");
+    /// Tells an order. It takes no memory.
+    pub fn tell_order(&mut self, order: &Order) {
+        let _ = match order {
+            Order::Run(Sid(sid), generation, _, descriptor) => {
+                writeln!(self.text, "run {sid} {generation}, ready on {descriptor:?}")
+            }
+            Order::Finish(Sid(sid), generation, _, code, signal) => {
+                writeln!(self.text, "finish {sid} {generation} {code} {signal}")
+            }
+            Order::Signal(Sid(sid), generation, number) => {
+                writeln!(self.text, "signal {sid} {generation} {number}")
+            }
+            Order::KillFinish(Sid(sid), generation) => {
+                writeln!(self.text, "kill finish {sid} {generation}")
+            }
+        };
     }
 
     /// Begins a part of this name.
@@ -67,7 +75,8 @@ impl Attempts {
         self.again(part);
     }
 
-    /// Does something, and once more where it was refused memory. What a refused attempt printed is forgotten.
+    /// Does something, and once more where it was refused memory. What a refused attempt printed is
+    /// forgotten.
     pub fn again<F: FnMut(&mut Text) -> Result<(), NoMemory>>(&mut self, mut part: F)
         requires { F.IsAlwaysCallable part }
     {

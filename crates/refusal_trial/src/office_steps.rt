@@ -10,11 +10,12 @@ use order_lanes::{AskFault, Backend, Carried, Lanes};
 use run_history::KnownHistory;
 use run_records::RunFault;
 use s6_events::NoMemory;
-use s6_replay::{Checked, ReplayFault, check, write_effect};
+use s6_replay::{Checked, ReplayFault, check, push_row, write_effect};
 use status_board::{Board, BoardReader};
 use std::alloc::Global;
 use std::io::Write;
 use std::sync::Wait;
+use supervise_core::Row;
 
 /// Plays the run of an office, and closes it.
 pub fn play_opened<B: Backend, C: Channels + Lanes, D: Board<C>, R: Wait>(
@@ -43,7 +44,11 @@ pub fn play_opened<B: Backend, C: Channels + Lanes, D: Board<C>, R: Wait>(
         "legal",
         |text| tell_legal(rt, alloc, &office, &mut known, text),
     );
-    tell_shot(rt, &office, &mut known, readers.as_mut_slice(), attempts);
+    let readers = readers.as_mut_slice();
+    attempts.make(
+        "shown",
+        |text| tell_shot(rt, alloc, &office, &mut known, readers, text),
+    );
     close(rt, alloc, office, seats, known, attempts)
 }
 
@@ -157,18 +162,33 @@ fn tell_legal<B: Backend, C: Channels + Lanes, D: Board<C>, R: Wait>(
 // The state that was published last.
 fn tell_shot<B: Backend, C: Channels + Lanes, D: Board<C>, R: Wait>(
     rt: &R,
+    alloc: Global,
     office: &Office<C, D, B>,
     known: &mut KnownHistory<C>,
     readers: &mut [BoardReader<C>],
-    attempts: &mut Attempts,
-) {
+    text: &mut Text,
+) -> Result<(), NoMemory> {
     let told = office.tell(rt, known);
-    if let Some(reader) = readers.first_mut() {
-        reader.learn(told);
-        if let Some(shot) = reader.read() {
-            attempts.tell_shot(shot.at, shot.rows.len());
-        }
+    let Some(reader) = readers.first_mut() else {
+        return Ok(());
+    };
+    reader.learn(told);
+    let Some(shot) = reader.read() else {
+        return Ok(());
+    };
+    let _ = writeln!(text, "after step {}", shot.at);
+    tell_rows(alloc, shot.rows.as_slice(), text)
+}
+
+/// Tells rows, a line for each.
+pub fn tell_rows(alloc: Global, rows: &[Row], text: &mut Text) -> Result<(), NoMemory> {
+    let mut lines = Vec::new(alloc);
+    for row in rows {
+        push_row(&mut lines, row)?;
+        lines.push(b'\n')?;
     }
+    let _ = text.try_extend_from_slice(lines.as_slice());
+    Ok(())
 }
 
 // Closes the office, which takes no memory but for the list of what its seats leave.

@@ -1,10 +1,14 @@
 //! Worked rows, input by input: one that is refused changes nothing, and is handed back.
-use crate::attempts::Attempts;
+use crate::attempts::{Attempts, Text};
+use crate::office_steps::tell_rows;
+use arrayvec::ArrayVec;
 use s6_events::{NoMemory, SubId, WaitId};
 use s6_replay::write_effect;
 use s6_script::parse_line;
 use std::alloc::Global;
-use tree_core::{Effect, Input, Tree, WaitState};
+use std::io::Write;
+use supervise_core::Row;
+use tree_core::{Effect, Input, SERVICE_LIMIT, Tree, WaitState};
 
 /// The rows, each behind a line with its name.
 const ROWS: &str = "# tally forgets the oldest
@@ -61,27 +65,48 @@ const ROWS: &str = "# tally forgets the oldest
 0 1 send svc q u
 0 1 mkdir q";
 
-// What a refused input may not change: the clock, the steps, the number of rows, where the first two waiters stand, and how many letters
-// the first subscription has heard.
+/// The most letters that the first subscription hears in a row.
+const HEARD_LIMIT: usize = 64;
+
+// What a refused input may not change: the clock, the steps, the rows, where the first two waiters
+// stand, and what the first subscription has heard.
 #[derive(PartialEq, Drop)]
-struct Shown {
+struct ShownState {
     now: u64,
     steps: u64,
-    rows: usize,
+    rows: ArrayVec<Row, SERVICE_LIMIT>,
     first: Option<WaitState>,
     second: Option<WaitState>,
-    heard: Option<usize>,
+    heard: ArrayVec<u8, HEARD_LIMIT>,
 }
 
-fn state_of(tree: &Tree<Global>) -> Shown {
-    Shown {
+fn state_of(tree: &Tree<Global>) -> ShownState {
+    let mut heard = ArrayVec::new();
+    if let Some(view) = tree.list(SubId(1)) {
+        for letter in view.letters {
+            let _ = heard.try_push(letter.byte());
+        }
+    }
+    ShownState {
         now: tree.now().millis(),
         steps: tree.steps(),
-        rows: tree.rows().len(),
+        rows: tree.rows(),
         first: tree.result(WaitId(1)),
         second: tree.result(WaitId(2)),
-        heard: tree.list(SubId(1)).map(|view| view.letters.len()),
+        heard,
     }
+}
+
+// Tells what a tree shows at last.
+fn tell_shown(alloc: Global, tree: &Tree<Global>, text: &mut Text) -> Result<(), NoMemory> {
+    let shown = state_of(tree);
+    let _ = writeln!(text, "at {}: {} steps", shown.now, shown.steps);
+    tell_rows(alloc, shown.rows.as_slice(), text)?;
+    let _ = writeln!(text, "waiters {:?}, {:?}", shown.first, shown.second);
+    let _ = text.try_extend_from_slice(b"heard ");
+    let _ = text.try_extend_from_slice(shown.heard.as_slice());
+    let _ = text.try_push(b'\n');
+    Ok(())
 }
 
 /// Plays each row on a tree of its own, and prints what each input gave.
@@ -110,6 +135,7 @@ fn play(alloc: Global, lines: &str, attempts: &mut Attempts) -> Option<()> {
             });
         }
     }
+    attempts.again(|text| tell_shown(alloc, &tree, text));
     Some(())
 }
 

@@ -1,4 +1,5 @@
-//! What the tests share: assertions, scripts with what is expected of them, texts that are made of templates.
+//! What the tests share: assertions, scripts with what is expected of them, texts that are made of
+//! templates.
 mod cases;
 mod replay;
 mod stories;

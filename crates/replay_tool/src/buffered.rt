@@ -1,4 +1,5 @@
-//! The tool `replay`, with buffers: it reads a script, a tree's inputs line by line, and writes what the tree answers, or the story in words.
+//! The tool `replay`, with buffers: it reads a script, a tree's inputs line by line, and writes
+//! what the tree answers, or the story in words.
 ghost use Rattle.std.specs.Prelude.{◌≡◌, ◌⊎◌, IfOk, IfErr, OnOk};
 ghost use Rattle.s6_replay.specs.Replay.{IsWhole, Stops};
 ghost use Rattle.s6_replay.specs.Migration.{Migrates, MigrateStops};
@@ -13,7 +14,8 @@ use s6_replay::{Checked, Counts, ReplayFault, check, migrate, run};
 use std::alloc::{Allocator, Global};
 use std::io::{BufRead, BufReader, BufWriter, Read, Write};
 
-// Buffers of 8,192 bytes for what is read and for what is written. `NoMemory` where memory is refused.
+// Buffers of 8,192 bytes for what is read and for what is written. `NoMemory` where memory is
+// refused.
 fn buffers<A: Allocator + Copy, R: Read + Drop, W: Write + Drop>(
     alloc: A,
     input: R,
@@ -28,7 +30,8 @@ fn buffers<A: Allocator + Copy, R: Read + Drop, W: Write + Drop>(
     Ok((reader, writer))
 }
 
-// Replays a script, and flushes the writer. Where the flush fails, the fault is `Write`, whatever else was wrong.
+// Replays a script, and flushes the writer. Where the flush fails, the fault is `Write`, whatever
+// else was wrong.
 fn replay_whole<A: Allocator + Copy, R: BufRead, W: Write>(
     alloc: A,
     patterns: Global,
@@ -49,9 +52,10 @@ fn replay_whole<A: Allocator + Copy, R: BufRead, W: Write>(
     replayed
 }
 
-/// Replays the script that the input gives, and writes its transcript, each through a buffer of 8,192 bytes. Patterns take
-/// their memory from `patterns`, and all else from `alloc`. At a fault but `Write` the transcript that was written before has left the
-/// buffer; at `Write` its end may be missing.
+/// Replays the script that the input gives, and writes its transcript, each through a buffer of
+/// 8,192 bytes. Patterns take their memory from `patterns`, and all else from `alloc`. At a fault
+/// but `Write` the transcript that was written before has left the buffer; at `Write` its end may
+/// be missing.
 pub fn replay<A: Allocator + Copy, R: Read + Drop, W: Write + Drop>(
     alloc: A,
     patterns: Global,
@@ -64,7 +68,8 @@ pub fn replay<A: Allocator + Copy, R: Read + Drop, W: Write + Drop>(
     Ok(())
 }
 
-// Migrates a script, and flushes the writer. Where the flush fails, the fault is `Write`, whatever else was wrong.
+// Migrates a script, and flushes the writer. Where the flush fails, the fault is `Write`, whatever
+// else was wrong.
 fn migrate_whole<A: Allocator + Copy, R: BufRead, W: Write>(
     alloc: A,
     patterns: Global,
@@ -86,8 +91,9 @@ fn migrate_whole<A: Allocator + Copy, R: BufRead, W: Write>(
     migrated
 }
 
-/// Reads the script of version 1 that the input gives, and writes the script of version 2 with the same inputs and the replies of a new
-/// tree, each through a buffer of 8,192 bytes. Memory and faults are as in `replay`.
+/// Reads the script of version 1 that the input gives, and writes the script of version 2 with the
+/// same inputs and the replies of a new tree, each through a buffer of 8,192 bytes. Memory and
+/// faults are as in `replay`.
 pub fn record_replies<A: Allocator + Copy, R: Read + Drop, W: Write + Drop>(
     alloc: A,
     patterns: Global,
@@ -100,15 +106,16 @@ pub fn record_replies<A: Allocator + Copy, R: Read + Drop, W: Write + Drop>(
     Ok(())
 }
 
-/// Why a script was not checked to its end: the fault, and how many of the lines that were read are those of whole steps.
+/// Why a script was not checked to its end: the fault, and how many of the lines that were read are
+/// those of whole steps.
 #[derive(Drop)]
 pub struct CheckFault {
     pub fault: ReplayFault,
     pub whole_lines: u64,
 }
 
-/// Reads the script of version 2 that the input gives, through a buffer of 8,192 bytes, and checks its replies. Memory and faults are as in
-/// `replay`.
+/// Reads the script of version 2 that the input gives, through a buffer of 8,192 bytes, and checks
+/// its replies. Memory and faults are as in `replay`.
 pub fn check_replies<A: Allocator + Copy, R: Read + Drop>(
     alloc: A,
     patterns: Global,
@@ -129,7 +136,8 @@ pub fn check_replies<A: Allocator + Copy, R: Read + Drop>(
     }
 }
 
-// Tells the story of a script, and flushes the writer. Where the flush fails, the fault is `Write`, whatever else was wrong.
+// Tells the story of a script, and flushes the writer. Where the flush fails, the fault is `Write`,
+// whatever else was wrong.
 fn tell_whole<A: Allocator + Copy, R: BufRead, W: Write>(
     alloc: A,
     patterns: Global,
@@ -149,7 +157,8 @@ fn tell_whole<A: Allocator + Copy, R: BufRead, W: Write>(
     told
 }
 
-/// Reads the script that the input gives, and writes its story, each through a buffer of 8,192 bytes. Memory and faults are as in `replay`.
+/// Reads the script that the input gives, and writes its story, each through a buffer of 8,192
+/// bytes. Memory and faults are as in `replay`.
 pub fn story<A: Allocator + Copy, R: Read + Drop, W: Write + Drop>(
     alloc: A,
     patterns: Global,
@@ -160,8 +169,8 @@ pub fn story<A: Allocator + Copy, R: Read + Drop, W: Write + Drop>(
     tell_whole(alloc, patterns, &mut reader, &mut writer)
 }
 
-/// Writes the story of a script as `story` does, but with times of day in place of seconds. The script's clock was 0 `start` milliseconds after
-/// the beginning of 1970.
+/// Writes the story of a script as `story` does, but with times of day in place of seconds. The
+/// script's clock was 0 `start` milliseconds after the beginning of 1970.
 pub fn dated_story<A: Allocator + Copy, R: Read + Drop, W: Write + Drop>(
     alloc: A,
     patterns: Global,
@@ -175,7 +184,8 @@ pub fn dated_story<A: Allocator + Copy, R: Read + Drop, W: Write + Drop>(
     tell_whole(alloc, patterns, &mut reader, &mut writer)
 }
 
-// Draws the timeline of a script, and flushes the writer. Where the flush fails, the fault is `Write`, whatever else was wrong.
+// Draws the timeline of a script, and flushes the writer. Where the flush fails, the fault is
+// `Write`, whatever else was wrong.
 fn draw_whole<A: Allocator + Copy, R: BufRead, W: Write>(
     alloc: A,
     patterns: Global,
@@ -189,8 +199,9 @@ fn draw_whole<A: Allocator + Copy, R: BufRead, W: Write>(
     drawn
 }
 
-/// Reads the script that the input gives, and writes its timeline, each through a buffer of 8,192 bytes. Memory and faults are as in
-/// `replay`; nothing is written before the whole script was read.
+/// Reads the script that the input gives, and writes its timeline, each through a buffer of 8,192
+/// bytes. Memory and faults are as in `replay`; nothing is written before the whole script was
+/// read.
 pub fn timeline<A: Allocator + Copy, R: Read + Drop, W: Write + Drop>(
     alloc: A,
     patterns: Global,

@@ -1,9 +1,11 @@
-//! A story, a script told in words, with times of day in place of the seconds with which its lines begin.
+//! A story, a script told in words, with times of day in place of the seconds with which its lines
+//! begin.
 use day_times::day_millisecond;
 use std::io::{Result, Write};
 
-/// A writer for a story. It writes each line with a time of day in place of the seconds with which the line begins: those seconds are gathered
-/// in `moment`, and the time of day at which they were 0 is `start`.
+/// A writer for a story. It writes each line with a time of day in place of the seconds with which
+/// the line begins: those seconds are gathered in `moment`, and the time of day at which they were
+/// 0 is `start`.
 #[derive(Debug, Drop)]
 pub struct Dated<W> {
     writer: W,
@@ -25,7 +27,8 @@ impl<W> Dated<W> {
     }
 }
 
-// The milliseconds of a moment, after one more of its bytes. A moment has three decimals, so its point is passed over.
+// The milliseconds of a moment, after one more of its bytes. A moment has three decimals, so its
+// point is passed over.
 fn read_further(moment: u64, byte: u8) -> u64 {
     match byte {
         b'0'..=b'9' => moment

@@ -44,7 +44,8 @@ fn line_of(fault: &ReplayFault) -> io::Result<ArrayVec<u8, 64>>
     Ok(line)
 }
 
-// Writes the line of a fault, or as much of it as the writer takes. The line always fits into its buffer.
+// Writes the line of a fault, or as much of it as the writer takes. The line always fits into its
+// buffer.
 fn tell<W: Write>(fault: &ReplayFault, writer: &mut W)
     ensures { (n : ℕ) × Appends (W.contents writer.old) (W.contents writer.new)
         (take n (fault_line fault.now)) }
@@ -54,9 +55,10 @@ fn tell<W: Write>(fault: &ReplayFault, writer: &mut W)
     }
 }
 
-/// Writes the line about a fault of `replay`, and returns the exit status: 100 where the input is no script, 111 where the system refused
-/// something. Where the line can't be written whole, a part from its beginning on may be, and the status is the same. Takes no memory. The
-/// lines are this program's own; the statuses are after the exit codes of s6's programs.
+/// Writes the line about a fault of `replay`, and returns the exit status: 100 where the input is
+/// no script, 111 where the system refused something. Where the line can't be written whole, a part
+/// from its beginning on may be, and the status is the same. Takes no memory. The lines are this
+/// program's own; the statuses are after the exit codes of s6's programs.
 pub fn replay_fault<W: Write>(fault: &ReplayFault, writer: &mut W) -> u8
     ensures status { result ≡ status_of fault.now }
     ensures line { (n : ℕ) × Appends (W.contents writer.old) (W.contents writer.new)

@@ -1,4 +1,5 @@
-//! Counts the lines of a script that is checked, so that whoever has one that was cut off learns how much of it is whole.
+//! Counts the lines of a script that is checked, so that whoever has one that was cut off learns
+//! how much of it is whole.
 ghost use Rattle.std.specs.Prelude.{◌≡◌};
 ghost use Rattle.replay_tool.specs.Whole.{lines_of_whole_steps};
 
@@ -33,7 +34,8 @@ impl<R: Read> Read for LineCounter<R> {
     }
 }
 
-// Of so many lines, how many are those of whole steps: the head line, and for each step its input and its reply.
+// Of so many lines, how many are those of whole steps: the head line, and for each step its input
+// and its reply.
 fn lines_of_whole_steps(lines: u64) -> u64
     ensures { result ≡ lines_of_whole_steps lines }
 {

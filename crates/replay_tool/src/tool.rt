@@ -1,4 +1,5 @@
-//! Finds out what the command line asks for, `replay` or a text of the program, and does it. The other tools are looked for before.
+//! Finds out what the command line asks for, `replay` or a text of the program, and does it. The
+//! other tools are looked for before.
 use crate::buffered::{
     CheckFault, check_replies, dated_story, record_replies, replay, story, timeline,
 };
@@ -22,17 +23,19 @@ const LONGEST_DAY: usize = 40;
 // The nanoseconds of a millisecond.
 const MILLISECOND: i128 = 1_000_000;
 
-// What the command line asks for. `DatedStory` is a story with times of day, and has the time at which the script's clock was 0, in milliseconds
-// since 1970. At `ReplayUsage` the words behind `replay` are wrong; at `Unknown` the first word names no tool.
+// What the command line asks for. `DatedStory` is a story with times of day, and has the time at
+// which the script's clock was 0, in milliseconds since 1970. At `ReplayUsage` the words behind
+// `replay` are wrong; at `Unknown` the first word names no tool.
 #[derive(Clone, Copy, Debug, PartialEq, Eq)]
-enum Asked {
+enum ReplayTask {
     Help,
     Version,
     Replay,
     Check,
     Migrate,
     Story,
-    // With times of day; the script's clock was 0 this many milliseconds after the beginning of 1970.
+    // With times of day; the script's clock was 0 this many milliseconds after the beginning of
+    // 1970.
     DatedStory(u64),
     Timeline,
     ReplayHelp,
@@ -40,7 +43,8 @@ enum Asked {
     Unknown,
 }
 
-// Whether the command line has a word at this place; the program's name is at 0. A word is read into an array, which takes no memory.
+// Whether the command line has a word at this place; the program's name is at 0. A word is read
+// into an array, which takes no memory.
 fn has_word(env: &impl Env, place: usize) -> bool {
     let mut word = [0; LONGEST_WORD];
     // A word that is longer than the array is there too: its error is `TooLong`.
@@ -57,8 +61,8 @@ fn is_word(env: &impl Env, place: usize, text: &[u8]) -> bool {
     }
 }
 
-// The milliseconds from the beginning of 1970 to the time of day at this place of the command line; None where there is no time of day, or
-// one before 1970.
+// The milliseconds from the beginning of 1970 to the time of day at this place of the command line;
+// None where there is no time of day, or one before 1970.
 fn day_at(env: &impl Env, place: usize) -> Option<u64> {
     let mut word = [0; LONGEST_DAY];
     let count = env.arg(place, &mut word).ok()?;
@@ -67,63 +71,65 @@ fn day_at(env: &impl Env, place: usize) -> Option<u64> {
     u64::try_from(instant.nanosecond / MILLISECOND).ok()
 }
 
-// What the command line asks for, where words follow `replay --story`. The program's name is at place 0, and so `--story` at 2.
-fn asked_of_story(env: &impl Env) -> Asked {
+// What the command line asks for, where words follow `replay --story`. The program's name is at
+// place 0, and so `--story` at 2.
+fn asked_of_story(env: &impl Env) -> ReplayTask {
     // Behind `--story` only `--since TIME` may come.
     if !is_word(env, 3, b"--since") || has_word(env, 5) {
-        return Asked::ReplayUsage;
+        return ReplayTask::ReplayUsage;
     }
     match day_at(env, 4) {
-        Some(start) => Asked::DatedStory(start),
-        None => Asked::ReplayUsage,
+        Some(start) => ReplayTask::DatedStory(start),
+        None => ReplayTask::ReplayUsage,
     }
 }
 
-// What the words behind `replay` ask for. The program's name is at place 0, and `replay` at 1, so the first of these words is at 2. A second one may
-// come behind `--story` alone.
-fn asked_of_replay(env: &impl Env) -> Asked {
+// What the words behind `replay` ask for. The program's name is at place 0, and `replay` at 1, so
+// the first of these words is at 2. A second one may come behind `--story` alone.
+fn asked_of_replay(env: &impl Env) -> ReplayTask {
     if !has_word(env, 2) {
-        Asked::Replay
+        ReplayTask::Replay
     } else if has_word(env, 3) {
         if is_word(env, 2, b"--story") {
             asked_of_story(env)
         } else {
-            Asked::ReplayUsage
+            ReplayTask::ReplayUsage
         }
     } else if is_word(env, 2, b"--check") {
-        Asked::Check
+        ReplayTask::Check
     } else if is_word(env, 2, b"--migrate") {
-        Asked::Migrate
+        ReplayTask::Migrate
     } else if is_word(env, 2, b"--story") {
-        Asked::Story
+        ReplayTask::Story
     } else if is_word(env, 2, b"--timeline") {
-        Asked::Timeline
+        ReplayTask::Timeline
     } else if is_word(env, 2, b"--help") || is_word(env, 2, b"-h") {
-        Asked::ReplayHelp
+        ReplayTask::ReplayHelp
     } else {
-        Asked::ReplayUsage
+        ReplayTask::ReplayUsage
     }
 }
 
-// What the command line asks for: `replay`, with the words behind it, or `--help` or `--version` alone; `Unknown` for any other words. The
-// program's name is at place 0.
-fn asked_tool(env: &impl Env) -> Asked {
+// What the command line asks for: `replay`, with the words behind it, or `--help` or `--version`
+// alone; `Unknown` for any other words. The program's name is at place 0.
+fn asked_tool(env: &impl Env) -> ReplayTask {
     if is_word(env, 1, b"replay") {
         return asked_of_replay(env);
     }
     // Behind `--help` and `--version` no word is taken.
     if has_word(env, 2) {
-        Asked::Unknown
+        ReplayTask::Unknown
     } else if is_word(env, 1, b"--help") {
-        Asked::Help
+        ReplayTask::Help
     } else if is_word(env, 1, b"--version") {
-        Asked::Version
+        ReplayTask::Version
     } else {
-        Asked::Unknown
+        ReplayTask::Unknown
     }
 }
 
-// Prints a text, and returns the exit status. Where the text can't be written whole, a line on `errors` says so.
+// Prints a text, and returns the exit status. Where the text can't be written whole, a line on
+// `errors` says so.
 fn print<W: Write, E: Write>(mut output: W, errors: &mut E, text: &[u8]) -> u8
 where
     W: Drop,
@@ -150,7 +156,8 @@ where
     replay_fault(&ReplayFault::Write, errors)
 }
 
-// Tells why a script was not checked to its end, and returns the exit status. Where it was cut off, a second line says how much of it is whole.
+// Tells why a script was not checked to its end, and returns the exit status. Where it was cut off,
+// a second line says how much of it is whole.
 fn tell_unchecked<E: Write>(unchecked: &CheckFault, errors: &mut E) -> u8 {
     let status = replay_fault(&unchecked.fault, errors);
     if unchecked.fault == ReplayFault::Truncated {
@@ -177,10 +184,11 @@ fn refuse<E: Write>(errors: &mut E, line: &[u8]) -> u8 {
     USAGE_STATUS
 }
 
-/// Runs the tool that the command line asks for, on this input and these two outputs, and returns the exit status: 0 where it was done, 1
-/// where a recorded reply is not the machine's, 100 where the command line is wrong or the input is no script, 111 where the system refused
-/// something. At 100 and 111 one line on `errors` says why; where it can't be written, the status is the same. Reading the command line
-/// takes no memory.
+/// Runs the tool that the command line asks for, on this input and these two outputs, and returns
+/// the exit status: 0 where it was done, 1 where a recorded reply is not the machine's, 100 where
+/// the command line is wrong or the input is no script, 111 where the system refused something. At
+/// 100 and 111 one line on `errors` says why; where it can't be written, the status is the same.
+/// Reading the command line takes no memory.
 pub fn run_tool<A: Allocator + Copy, R: Read + Drop, W: Write + Drop, E: Write>(
     env: &impl Env,
     alloc: A,
@@ -190,22 +198,22 @@ pub fn run_tool<A: Allocator + Copy, R: Read + Drop, W: Write + Drop, E: Write>(
     errors: &mut E,
 ) -> u8 {
     match asked_tool(env) {
-        Asked::Help => print(output, errors, HELP),
-        Asked::Version => print(output, errors, VERSION),
-        Asked::ReplayHelp => print(output, errors, REPLAY_HELP),
-        Asked::Replay => ended(replay(alloc, patterns, input, output), errors),
+        ReplayTask::Help => print(output, errors, HELP),
+        ReplayTask::Version => print(output, errors, VERSION),
+        ReplayTask::ReplayHelp => print(output, errors, REPLAY_HELP),
+        ReplayTask::Replay => ended(replay(alloc, patterns, input, output), errors),
         // The script once more, with the replies of a new tree.
-        Asked::Migrate => ended(record_replies(alloc, patterns, input, output), errors),
-        Asked::Story => ended(story(alloc, patterns, input, output), errors),
-        Asked::DatedStory(start) => {
+        ReplayTask::Migrate => ended(record_replies(alloc, patterns, input, output), errors),
+        ReplayTask::Story => ended(story(alloc, patterns, input, output), errors),
+        ReplayTask::DatedStory(start) => {
             ended(dated_story(alloc, patterns, start, input, output), errors)
         }
-        Asked::Timeline => ended(timeline(alloc, patterns, input, output), errors),
-        Asked::Check => match check_replies(alloc, patterns, input) {
+        ReplayTask::Timeline => ended(timeline(alloc, patterns, input, output), errors),
+        ReplayTask::Check => match check_replies(alloc, patterns, input) {
             Ok(checked) => print_checked(output, errors, checked),
             Err(unchecked) => tell_unchecked(&unchecked, errors),
         },
-        Asked::ReplayUsage => refuse(errors, REPLAY_USAGE),
-        Asked::Unknown => refuse(errors, NO_TOOL),
+        ReplayTask::ReplayUsage => refuse(errors, REPLAY_USAGE),
+        ReplayTask::Unknown => refuse(errors, NO_TOOL),
     }
 }

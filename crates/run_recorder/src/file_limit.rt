@@ -8,8 +8,8 @@ pub(crate) fn room(limit: u64, length: u64) -> u64
     limit.saturating_sub(length)
 }
 
-/// The limit of a file's size in what `/proc/self/limits` tells: the first number of its line, in bytes. None where that is no number, as
-/// `unlimited`, or where there is no such line.
+/// The limit of a file's size in what `/proc/self/limits` tells: the first number of its line, in
+/// bytes. None where that is no number, as `unlimited`, or where there is no such line.
 pub(crate) fn limit_in(limits: &[u8]) -> Option<u64> {
     let line = limits
         .split(|byte| *byte == b'\n')

@@ -1,4 +1,5 @@
-//! The file in which the runs of a tree are recorded, one after the other, as one script with the reply to each input.
+//! The file in which the runs of a tree are recorded, one after the other, as one script with the
+//! reply to each input.
 #![tactic(auto)]
 
 mod file_limit;

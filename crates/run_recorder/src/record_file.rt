@@ -10,7 +10,8 @@ use std::rt::Files;
 /// The rights of a record: its owner's alone.
 const RECORD_MODE: u32 = 0o600;
 
-/// How many bytes are written at the start, to see whether the disk has room, in bytes: a block of most file systems.
+/// How many bytes are written at the start, to see whether the disk has room, in bytes: a block of
+/// most file systems.
 const PROBE: [u8; 4_096] = [0; 4_096];
 
 /// The most bytes that are read of what the system tells of its limits.
@@ -22,8 +23,8 @@ pub trait RecordWriter: Write {
     fn is_removed(&self) -> bool;
 }
 
-/// The file of a record. The system kills whoever writes behind the limit of a file's size (SIGXFSZ): a write that would is refused here, as it is
-/// where the disk is full.
+/// The file of a record. The system kills whoever writes behind the limit of a file's size
+/// (SIGXFSZ): a write that would is refused here, as it is where the disk is full.
 #[derive(Drop)]
 pub struct RecordFile {
     file: File,
@@ -67,16 +68,18 @@ impl RecordWriter for BufWriter<RecordFile> {
     }
 }
 
-/// A writer of the file at this path, which is made, or made empty, with rights for its owner alone. It is an error where a link is at the path,
-/// or another file that isn't regular, where another server records in the file, or where the disk has no room: what is there is left as it is, but
-/// for a file in which no room was left.
+/// A writer of the file at this path, which is made, or made empty, with rights for its owner
+/// alone. It is an error where a link is at the path, or another file that isn't regular, where
+/// another server records in the file, or where the disk has no room: what is there is left as it
+/// is, but for a file in which no room was left.
 pub fn create_record<R: Files<File = File>>(
     rt: &R,
     alloc: Global,
     path: &str,
 ) -> io::Result<BufWriter<RecordFile>> {
     let file = open_record(rt, path)?;
-    // Another server has the lock. A lock that fails otherwise, as on a file system that has none, is no error.
+    // Another server has the lock. A lock that fails otherwise, as on a file system that has none,
+    // is no error.
     if let Err(TryLockError::WouldBlock) = file.try_lock() {
         return Err(ErrorKind::WouldBlock.into());
     }
@@ -91,7 +94,8 @@ pub fn create_record<R: Files<File = File>>(
     BufWriter::new(alloc, record)
 }
 
-/// The limit of a file's size, in bytes, as the system tells it; None where it sets none, or tells nothing.
+/// The limit of a file's size, in bytes, as the system tells it; None where it sets none, or tells
+/// nothing.
 pub fn file_size_limit<R: Files<File = File>>(rt: &R, alloc: Global) -> Option<u64> {
     let file = File::open(rt, "/proc/self/limits").ok()?;
     let mut text = Vec::new(alloc);
@@ -99,10 +103,12 @@ pub fn file_size_limit<R: Files<File = File>>(rt: &R, alloc: Global) -> Option<u
     limit_in(text.as_slice())
 }
 
-// Makes the file at this path, or opens the one that is there. Only a regular file is opened: to open a pipe would wait for its reader.
+// Makes the file at this path, or opens the one that is there. Only a regular file is opened: to
+// open a pipe would wait for its reader.
 fn open_record<R: Files<File = File>>(rt: &R, path: &str) -> io::Result<File> {
     let mut options = OpenOptions::new();
-    // With `create_new` the opening fails where a file is there: that one is opened by `open_standing`.
+    // With `create_new` the opening fails where a file is there: that one is opened by
+    // `open_standing`.
     options.append(true).create_new(true).mode(RECORD_MODE);
     match options.open(rt, path) {
         Err(error) if error.kind() == ErrorKind::AlreadyExists => open_standing(rt, path),
@@ -110,7 +116,8 @@ fn open_record<R: Files<File = File>>(rt: &R, path: &str) -> io::Result<File> {
     }
 }
 
-// Opens the regular file that is at this path. `InvalidInput` where the file is not regular, or is replaced meanwhile.
+// Opens the regular file that is at this path. `InvalidInput` where the file is not regular, or is
+// replaced meanwhile.
 fn open_standing<R: Files<File = File>>(rt: &R, path: &str) -> io::Result<File> {
     // The look at the path doesn't follow a link, so a link is not regular here.
     let found = fs::symlink_metadata(rt, path)?;

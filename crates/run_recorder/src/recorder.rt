@@ -1,5 +1,5 @@
-//! The file in which the runs of a tree are recorded, as one script with replies. A run is the tree's steps between two handovers.
-//! `recording.rt` of tree_driver says when a run is recorded.
+//! The file in which the runs of a tree are recorded, as one script with replies. A run is the
+//! tree's steps between two handovers. `recording.rt` of tree_driver says when a run is recorded.
 use crate::record_file::{RecordFile, RecordWriter, create_record};
 use channel_names::Channels;
 use office::Office;
@@ -14,20 +14,23 @@ use std::io::{self, BufWriter, Write};
 use std::rt::Files;
 use std::sync::Wait;
 
-/// How much memory is set aside for writing a run, in bytes. It is meant for the text of its longest step, while that grows.
+/// How much memory is set aside for writing a run, in bytes. It is meant for the text of its
+/// longest step, while that grows.
 const RESERVE: usize = 1_048_576;
 
 /// Why a run was not recorded.
 #[derive(Clone, Copy, PartialEq, Eq, Debug)]
 pub enum RecordFault {
-    /// The file did not take all of the run, or an input has no spelling. No run may be appended after that.
+    /// The file did not take all of the run, or an input has no spelling. No run may be appended
+    /// after that.
     Write,
-    /// Memory was refused. The run may be appended again: what was written of it already is skipped then.
+    /// Memory was refused. The run may be appended again: what was written of it already is skipped
+    /// then.
     NoMemory,
 }
 
-/// Where the runs of a tree are recorded, if anywhere. All of them are one script, with the reply to each input; `is_begun` is whether a run is
-/// in it, and so its head line.
+/// Where the runs of a tree are recorded, if anywhere. All of them are one script, with the reply
+/// to each input; `is_begun` is whether a run is in it, and so its head line.
 #[derive(Drop)]
 pub struct Recorder<W> {
     alloc: Global,
@@ -37,23 +40,21 @@ pub struct Recorder<W> {
     steps: u64,
     // How many bytes of the present run were written by calls that were refused memory.
     already_written: u64,
-    // Memory that is set aside, and given back just before a run is written, so that there is some for its text.
+    // Memory that is set aside, and given back just before a run is written, so that there is some
+    // for its text.
     reserve: Vec<u8>,
 }
 
 impl<W: RecordWriter + Drop> Recorder<W> {
-    /// A recorder with this writer, to which nothing was written yet; without a writer it records nothing.
+    /// A recorder with this writer, to which nothing was written yet; without a writer it records
+    /// nothing.
     pub fn new(alloc: Global, writer: Option<W>) -> Recorder<W> {
         Recorder {
             alloc,
             writer,
-            // Whether a run is in the record, and so the script's head line.
             is_begun: false,
-            // How many steps the record has.
             steps: 0,
-            // How many bytes of the present run were written by calls that were refused memory.
             already_written: 0,
-            // Memory that `prepare` sets aside for the text of a run, and `append` gives back: none yet.
             reserve: Vec::new(alloc),
         }
     }
@@ -76,8 +77,9 @@ impl<W: RecordWriter + Drop> Recorder<W> {
         self.steps
     }
 
-    /// Sets memory aside for the text of a run (`RESERVE` bytes), if runs are recorded, which is where there is a writer. Call it when the run
-    /// begins. After `NoMemory` it may be called again.
+    /// Sets memory aside for the text of a run (`RESERVE` bytes), if runs are recorded, which is
+    /// where there is a writer. Call it when the run begins. After `NoMemory` it may be called
+    /// again.
     pub fn prepare(&mut self) -> Result<(), NoMemory> {
         if self.writer.is_some() {
             self.reserve.reserve(RESERVE)?;
@@ -85,8 +87,9 @@ impl<W: RecordWriter + Drop> Recorder<W> {
         Ok(())
     }
 
-    /// Appends the run of an office to the record, if there is one. Nobody else may use the office meanwhile. After `NoMemory` a further call
-    /// for the same run goes on behind the bytes that are written already.
+    /// Appends the run of an office to the record, if there is one. Nobody else may use the office
+    /// meanwhile. After `NoMemory` a further call for the same run goes on behind the bytes that
+    /// are written already.
     pub fn append<C: Channels + Lanes, D: Board<C>, B: Backend, R: Wait>(
         &mut self,
         rt: &R,
@@ -97,7 +100,8 @@ impl<W: RecordWriter + Drop> Recorder<W> {
         let Some(writer) = self.writer.as_mut() else {
             return Ok(());
         };
-        // This gives back the memory that was set aside, so that there is some for the text of the run.
+        // This gives back the memory that was set aside, so that there is some for the text of the
+        // run.
         self.reserve = Vec::new(self.alloc);
         // Earlier calls wrote the first `already_written` bytes of this run: these are skipped.
         let mut rest = RestWriter {
@@ -127,7 +131,8 @@ impl<W: RecordWriter + Drop> Recorder<W> {
     }
 }
 
-/// A writer of the rest of a run: it skips the first bytes, which were written before, and writes those after them.
+/// A writer of the rest of a run: it skips the first bytes, which were written before, and writes
+/// those after them.
 #[derive(Drop)]
 struct RestWriter<'a, W: Write> {
     writer: &'a mut W,
@@ -138,8 +143,8 @@ struct RestWriter<'a, W: Write> {
 }
 
 impl<'a, W: Write> Write for RestWriter<'a, W> {
-    // Skips bytes as long as there are such that were written before, and answers them as if it had written them. Then it writes, and counts what
-    // it has written.
+    // Skips bytes as long as there are such that were written before, and answers them as if it had
+    // written them. Then it writes, and counts what it has written.
     fn write(&mut self, buf: &[u8]) -> io::Result<usize> {
         if self.to_skip > 0 {
             let skipped = self.to_skip.min(buf.len() as u64);
@@ -157,7 +162,8 @@ impl<'a, W: Write> Write for RestWriter<'a, W> {
     }
 }
 
-/// A recorder of the file at this path, as `create_record` makes it; without a path it records nothing.
+/// A recorder of the file at this path, as `create_record` makes it; without a path it records
+/// nothing.
 pub fn create_recorder<R: Files<File = File>>(
     rt: &R,
     alloc: Global,

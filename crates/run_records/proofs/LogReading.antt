@@ -9,8 +9,8 @@ use Rattle.tree_core.specs.Machine.{Outcome}
 use Rattle.step_codes.specs.Adding.{Adds}
 use Rattle.step_codes.specs.StepCodes.{step_onto, FitsStep}
 use Rattle.step_codes.proofs.StepBack.{step_back}
-use Rattle.run_records.specs.declared.step_log.Start.{Start}
-use Rattle.run_records.specs.declared.step_log.Start.TheVariants.{Coded, Whole}
+use Rattle.run_records.specs.declared.step_log.StepStart.{StepStart}
+use Rattle.run_records.specs.declared.step_log.StepStart.TheVariants.{Coded, Whole}
 use Rattle.run_records.specs.Runs.{RunStep}
 use Rattle.run_records.specs.Log.{IsCode, IsThere, step_at, step_coded, step_or}
 use Rattle.run_records.proofs.Snoc.{all_snoc, get_grown, last_there, there_at}
@@ -28,7 +28,7 @@ coded codes start c =
     (step_back c.step.input c.step.outcome c.rest c.fits)
 
 -- the step of a start that stands at a place
-pub step_there : (codes : List ℕ) (whole : List RunStep) (starts : List Start) (place : ℕ) (st : Start) (s : RunStep)
+pub step_there : (codes : List ℕ) (whole : List RunStep) (starts : List StepStart) (place : ℕ) (st : StepStart) (s : RunStep)
     → slice_get (map (step_at codes whole) starts) place ≡ Some s → slice_get starts place ≡ Some st → step_at codes whole st ≡ s
 step_there codes whole starts place st s there here =
     cc (sym (slice_get-map (step_at codes whole) starts place ∙ ap (option_map (step_at codes whole)) here) ∙ there)
@@ -53,11 +53,11 @@ code_grown codes more start c = record {
   fits = c.fits;
 }
 
-there_grown : (codes more : List ℕ) (whole new : List RunStep) (st : Start) → IsThere codes whole st → IsThere (codes ++ more) (whole ++ new) st
+there_grown : (codes more : List ℕ) (whole new : List RunStep) (st : StepStart) → IsThere codes whole st → IsThere (codes ++ more) (whole ++ new) st
 there_grown codes more whole new (Coded start) c = code_grown codes more start c
 there_grown codes more whole new (Whole place) low = let n = length-append whole new in omega (arith, low)
 
-at_grown : (codes more : List ℕ) (whole new : List RunStep) (st : Start) → IsThere codes whole st
+at_grown : (codes more : List ℕ) (whole new : List RunStep) (st : StepStart) → IsThere codes whole st
     → step_at (codes ++ more) (whole ++ new) st ≡ step_at codes whole st
 unfolding code_grown
 at_grown codes more whole new (Coded start) c = coded (codes ++ more) start (code_grown codes more start c) ∙ sym (coded codes start c)
@@ -65,7 +65,7 @@ at_grown codes more whole new (Whole place) low =
     let here = there_at whole place low in
     ap step_or (get_grown whole new place here.one here.there) ∙ sym (ap step_or here.there)
 
-all_grown : (codes more : List ℕ) (whole new : List RunStep) (starts : List Start) → All (IsThere codes whole) starts
+all_grown : (codes more : List ℕ) (whole new : List RunStep) (starts : List StepStart) → All (IsThere codes whole) starts
     → map (step_at (codes ++ more) (whole ++ new)) starts ≡ map (step_at codes whole) starts
 all_grown codes more whole new [] all = refl
 all_grown codes more whole new (st ∷ starts) all =
@@ -73,12 +73,12 @@ all_grown codes more whole new (st ∷ starts) all =
     (ap (λ (ss : List RunStep). step_at codes whole st ∷ ss) (all_grown codes more whole new starts (λ k d b. all (suc k) d (omega arith))))
 
 -- a log with one step more
-pub record IsLonger (codes : List ℕ) (whole : List RunStep) (starts : List Start) (codes_after : List ℕ) (whole_after : List RunStep)
-    (starts_after : List Start) (s : RunStep) : Type 0 where
+pub record IsLonger (codes : List ℕ) (whole : List RunStep) (starts : List StepStart) (codes_after : List ℕ) (whole_after : List RunStep)
+    (starts_after : List StepStart) (s : RunStep) : Type 0 where
   pub sound : All (IsThere codes_after whole_after) starts_after
   pub steps : map (step_at codes_after whole_after) starts_after ≡ map (step_at codes whole) starts ++ s ∷ []
 
-longer : (codes more : List ℕ) (whole new : List RunStep) (starts : List Start) (st : Start) (s : RunStep) → All (IsThere codes whole) starts
+longer : (codes more : List ℕ) (whole new : List RunStep) (starts : List StepStart) (st : StepStart) (s : RunStep) → All (IsThere codes whole) starts
     → IsThere (codes ++ more) (whole ++ new) st → step_at (codes ++ more) (whole ++ new) st ≡ s
     → IsLonger codes whole starts (codes ++ more) (whole ++ new) (starts ++ st ∷ []) s
 longer codes more whole new starts st s all there is = record {
@@ -92,7 +92,7 @@ longer codes more whole new starts st s all there is = record {
 }
 
 -- by a code
-pub coded_longer : (codes code codes_after : List ℕ) (whole : List RunStep) (starts starts_after : List Start) (start : ℕ) (s : RunStep)
+pub coded_longer : (codes code codes_after : List ℕ) (whole : List RunStep) (starts starts_after : List StepStart) (start : ℕ) (s : RunStep)
     → All (IsThere codes whole) starts → start ≡ length codes → Adds [] code (step_onto s.input s.outcome) → FitsStep s.input s.outcome
     → codes_after ≡ codes ++ code → starts_after ≡ starts ++ Coded start ∷ []
     → IsLonger codes whole starts codes_after whole starts_after s
@@ -112,7 +112,7 @@ coded_longer codes code codes_after whole starts starts_after start s all at ont
     rw (is, longer_by) (subst (λ (w : List RunStep). IsLonger codes whole starts (codes ++ code) w (starts ++ Coded start ∷ []) s) same made)
 
 -- by a whole step
-pub whole_longer : (codes : List ℕ) (whole whole_after : List RunStep) (starts starts_after : List Start) (place : ℕ) (s : RunStep)
+pub whole_longer : (codes : List ℕ) (whole whole_after : List RunStep) (starts starts_after : List StepStart) (place : ℕ) (s : RunStep)
     → All (IsThere codes whole) starts → place ≡ length whole → whole_after ≡ whole ++ s ∷ [] → starts_after ≡ starts ++ Whole place ∷ []
     → IsLonger codes whole starts codes whole_after starts_after s
 whole_longer codes whole whole_after starts starts_after place s all at is longer_by =

@@ -1,7 +1,7 @@
 -- The steps of a log: most of them in bytes, the others whole.
 use Rattle.std.specs.Prelude.{◌≡◌, ℕ, ◌<◌, ◌≤◌, List, [], ◌++◌, drop, length, slice_get, Option, Some, None}
-use Rattle.run_records.specs.declared.step_log.Start.{Start}
-use Rattle.run_records.specs.declared.step_log.Start.TheVariants.{Coded, Whole}
+use Rattle.run_records.specs.declared.step_log.StepStart.{StepStart}
+use Rattle.run_records.specs.declared.step_log.StepStart.TheVariants.{Coded, Whole}
 use Rattle.run_records.specs.Runs.{RunStep}
 use Rattle.step_codes.specs.ReadingSteps.{step_in}
 use Rattle.step_codes.specs.StepCodes.{step_onto, FitsStep}
@@ -15,7 +15,7 @@ step_or None = step_coded []
 step_or (Some s) = s
 
 -- the step of a start, of these codes and these whole steps
-abbrev pub step_at : List ℕ → List RunStep → Start → RunStep
+abbrev pub step_at : List ℕ → List RunStep → StepStart → RunStep
 step_at codes whole (Coded start) = step_coded (drop start codes)
 step_at codes whole (Whole place) = step_or (slice_get whole place)
 
@@ -29,6 +29,6 @@ pub record IsCode (codes : List ℕ) (start : ℕ) : Type 0 where
   pub onto : (more : List ℕ) → code ++ more ≡ step_onto step.input step.outcome more
   pub fits : FitsStep step.input step.outcome
 
-abbrev pub IsThere : List ℕ → List RunStep → Start → Type 0
+abbrev pub IsThere : List ℕ → List RunStep → StepStart → Type 0
 IsThere codes whole (Coded start) = IsCode codes start
 IsThere codes whole (Whole place) = place < length whole

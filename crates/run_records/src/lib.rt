@@ -10,7 +10,7 @@ mod writing;
 
 pub use record::Record;
 pub use run::{RUN_LIMIT, Run};
-pub use step_log::{LogRoom, Start, StepLog, Stored};
+pub use step_log::{LogRoom, StepLog, StepStart, Stored};
 pub use step_places::StepPlaces;
 pub use whole_steps::WholeSteps;
 pub use writing::RunFault;

@@ -2,7 +2,8 @@
 use std::alloc::Global;
 use tree_core::{Event, Match, PlainInput, Release, Reply};
 
-/// A step of a run: its input and what it gave. Its orders stand in the run's one list of orders, `count` of them from `first` on.
+/// A step of a run: its input and what it gave. Its orders stand in the run's one list of orders,
+/// `count` of them from `first` on.
 #[derive(Drop)]
 pub struct Record {
     pub input: PlainInput<Global>,

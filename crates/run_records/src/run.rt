@@ -16,21 +16,23 @@ use step_codes::KeptInput;
 use tree_core::{Effect, Reply};
 
 /// How many actors there may be.
-const ACTORS: usize = 16;
+const ACTOR_LIMIT: usize = 16;
 
 /// The most steps of a run.
 pub const RUN_LIMIT: usize = 262_144;
 
-/// The room of a new run. Each block has more than 32 MiB, so the C library always takes it from the system by itself, and gives it back to
-/// the system when the run is dropped. A page of a block uses memory only once it is written.
-const ROOM: LogRoom = LogRoom {
+/// The room of a new run. Each block has more than 32 MiB, so the C library always takes it from
+/// the system by itself, and gives it back to the system when the run is dropped. A page of a block
+/// uses memory only once it is written.
+const LOG_ROOM: LogRoom = LogRoom {
     starts: 8_388_608,
     bytes: 67_108_864,
     whole: RUN_LIMIT,
     orders: 2 * RUN_LIMIT,
 };
 
-/// The steps of a run, oldest first, and the places of each actor's steps. Contracts see each step as its input and all that it gave.
+/// The steps of a run, oldest first, and the places of each actor's steps. Contracts see each step
+/// as its input and all that it gave.
 #[derive(Drop)]
 pub struct Run {
     log: StepLog,
@@ -50,12 +52,13 @@ impl Model for Run {
 }
 
 impl Run {
-    /// A run with no step, and with room for all, so that none is moved while a lock is held. `NoMemory` where memory is refused.
+    /// A run with no step, and with room for all, so that none is moved while a lock is held.
+    /// `NoMemory` where memory is refused.
     pub fn new(alloc: Global) -> Result<Run, NoMemory>
         ensures { IfOk result (λ run. run.steps ≡ []) }
     {
         Ok(Run {
-            log: StepLog::new(alloc, ROOM)?,
+            log: StepLog::new(alloc, LOG_ROOM)?,
             places: no_places(alloc)?,
         })
     }
@@ -67,8 +70,8 @@ impl Run {
         self.log.len()
     }
 
-    /// Makes room for one step more of this actor, whatever it gives. `NoMemory` where memory is refused, or where 2^32 steps are kept whole;
-    /// the steps stay.
+    /// Makes room for one step more of this actor, whatever it gives. `NoMemory` where memory is
+    /// refused, or where 2^32 steps are kept whole; the steps stay.
     pub fn reserve(&mut self, actor: Actor) -> Result<(), NoMemory>
         ensures steps { self.new.steps ≡ self.old.steps }
         ensures room { OnOk result (HasRoom actor self.new) }
@@ -79,7 +82,8 @@ impl Run {
         Ok(())
     }
 
-    /// Adds a step of this input and this effect, for which there is room. The effect has to be filled anew before it is read again.
+    /// Adds a step of this input and this effect, for which there is room. The effect has to be
+    /// filled anew before it is read again.
     #[inline(always)]
     pub fn add<I: KeptInput>(&mut self, input: I, effect: &mut Effect<Global>)
         requires room { HasRoom (I.input input).actor self.old }
@@ -87,12 +91,14 @@ impl Run {
         ensures { self.new.steps ≡ self.old.steps
             ++ record { input = I.input input; outcome = outcome_of effect.old } ∷ [] }
     {
-        // By this list of its own an actor's step is found again in the log, at whose end the step comes.
+        // By this list of its own an actor's step is found again in the log, at whose end the step
+        // comes.
         self.places[usize::from(input.actor().number())].push(self.log.len());
         self.log.push(input, effect);
     }
 
-    /// All that step `number` gave, counted from 1; None where there is no such step. `NoMemory` where memory is refused.
+    /// All that step `number` gave, counted from 1; None where there is no such step. `NoMemory`
+    /// where memory is refused.
     pub fn effect(&self, alloc: Global, number: u64) -> Result<Option<Effect<Global>>, NoMemory>
         ensures { IfOk result
             (λ effect. option_map (λ e. outcome_of e) effect ≡ outcome_at number self.now.steps) }
@@ -118,9 +124,10 @@ impl Run {
         }
     }
 
-    /// Fills an effect with all that step `number` gave, counted from 1; what it held is gone. False where there is no such step: nothing
-    /// is filled in. `NoMemory` where memory is refused: the effect may then be filled in part. The effect's lists are used again,
-    /// so a caller that reads many steps takes that memory once.
+    /// Fills an effect with all that step `number` gave, counted from 1; what it held is gone.
+    /// False where there is no such step: nothing is filled in. `NoMemory` where memory is refused:
+    /// the effect may then be filled in part. The effect's lists are used again, so a caller that
+    /// reads many steps takes that memory once.
     pub fn fill(&self, number: u64, effect: &mut Effect<Global>) -> Result<bool, NoMemory>
         ensures { IfOk result
             (λ is_there. IsFilled is_there (outcome_of effect.new) number self.now.steps) }
@@ -144,7 +151,8 @@ impl Run {
         }
     }
 
-    /// The moment at which the input of step `number` was handed in, counted from 1; None where there is no such step.
+    /// The moment at which the input of step `number` was handed in, counted from 1; None where
+    /// there is no such step.
     pub fn moment(&self, number: u64) -> Option<At>
         ensures { result ≡ moment_at number self.now.steps }
     {
@@ -154,8 +162,8 @@ impl Run {
         }
     }
 
-    /// The reply to this actor's input `number`, counted from 1 among its own; None where the run has no such input. `NoMemory` where
-    /// memory is refused.
+    /// The reply to this actor's input `number`, counted from 1 among its own; None where the run
+    /// has no such input. `NoMemory` where memory is refused.
     pub fn reply(
         &self,
         alloc: Global,
@@ -176,9 +184,11 @@ impl Run {
         Ok(Some(reply))
     }
 
-    /// Writes the steps as a recorded script: the head line, if `head`, and then for each step the line of its input and that of its reply.
-    /// Returns how many steps these are. Where each run goes on from the one before, and only the first is written with the head line,
-    /// their texts in a row are one script. The writer is not flushed. `RunFault` says what each fault leaves written.
+    /// Writes the steps as a recorded script: the head line, if `head`, and then for each step the
+    /// line of its input and that of its reply. Returns how many steps these are. Where each run
+    /// goes on from the one before, and only the first is written with the head line, their texts
+    /// in a row are one script. The writer is not flushed. `RunFault` says what each fault leaves
+    /// written.
     #[inline(never)]
     pub fn write<W: Write>(
         &self,
@@ -222,7 +232,7 @@ fn no_places(alloc: Global) -> Result<Vec<StepPlaces>, NoMemory>
     ensures empty { IfOk result (λ all. AreEmpty all.items) }
 {
     let mut all = Vec::new(alloc);
-    for _ in 0..ACTORS {
+    for _ in 0..ACTOR_LIMIT {
         all.push(StepPlaces::new(alloc))?;
     }
     Ok(all)

@@ -1,4 +1,5 @@
-//! The steps of a run, in little room. A step's code is its input and what it gave, as some dozens of bytes (`step_codes`).
+//! The steps of a run, in little room. A step's code is its input and what it gave, as some dozens
+//! of bytes (`step_codes`).
 ghost use Rattle.std.specs.Prelude.{◌≡◌, ◌<◌, ◌≤◌, [], ◌∷◌, ◌++◌, length, OnOk, IfOk, IsTrue, IsFalse, slice_get, Some, drop};
 ghost use Rattle.tree_core.specs.Effect.{outcome_of};
 ghost use Rattle.tree_core.specs.Limits.{order_limit};
@@ -15,14 +16,15 @@ use tree_core::{Effect, PlainInput, Reply};
 
 /// Where a step of the log is kept.
 #[derive(Clone, Copy)]
-pub enum Start {
+pub enum StepStart {
     /// Its code begins at this byte.
     Coded(u32),
     /// It is kept as it is, at this place.
     Whole(u32),
 }
 
-/// How much a new log has room for: so many starts, bytes of codes, steps that are kept as they are, and orders of these.
+/// How much a new log has room for: so many starts, bytes of codes, steps that are kept as they
+/// are, and orders of these.
 #[derive(Clone, Copy)]
 pub struct LogRoom {
     pub starts: usize,
@@ -40,14 +42,15 @@ pub enum Stored<'a> {
     Whole(&'a Record),
 }
 
-/// The steps of a run, oldest first. A step is kept as its code, some dozens of bytes, or as it is where it has none, or where memory for its code
-/// was refused. Contracts see each step as its input and all that it gave.
+/// The steps of a run, oldest first. A step is kept as its code, some dozens of bytes, or as it is
+/// where it has none, or where memory for its code was refused. Contracts see each step as its
+/// input and all that it gave.
 #[derive(Drop)]
 pub struct StepLog {
     // The codes of steps, one behind the other.
     codes: Vec<u8>,
     // Where each step is kept, oldest first.
-    starts: Vec<Start>,
+    starts: Vec<StepStart>,
     whole: WholeSteps,
     /// Where a code is made, so that all steps use the same memory.
     scratch: Vec<u8>,
@@ -70,13 +73,9 @@ impl StepLog {
         ensures { IfOk result (λ log. log.steps ≡ []) }
     {
         Ok(StepLog {
-            // The codes of steps, one behind the other.
             codes: Vec::with_capacity(alloc, room.bytes)?,
-            // For each step where its code begins, or its place in `whole`.
             starts: Vec::with_capacity(alloc, room.starts)?,
-            // The steps whose codes are not there: they are kept as they are.
             whole: WholeSteps::new(alloc, room.whole, room.orders)?,
-            // Where the code of a step is made, before it is copied to `codes`.
             scratch: Vec::new(alloc),
         })
     }
@@ -88,7 +87,8 @@ impl StepLog {
         self.starts.len()
     }
 
-    /// Makes room for one step more, whatever it gives. `NoMemory` where memory is refused, or where 2^32 steps are kept whole; the steps stay.
+    /// Makes room for one step more, whatever it gives. `NoMemory` where memory is refused, or
+    /// where 2^32 steps are kept whole; the steps stay.
     pub fn reserve(&mut self) -> Result<(), NoMemory>
         ensures steps { self.new.steps ≡ self.old.steps }
         ensures room { OnOk result (LogHasRoom self.new) }
@@ -98,11 +98,13 @@ impl StepLog {
             return Err(NoMemory);
         }
         self.starts.reserve(1)?;
-        // Room for the step as it is: where it has no code, or memory for its code is refused, it is kept so.
+        // Room for the step as it is: where it has no code, or memory for its code is refused, it
+        // is kept so.
         self.whole.reserve()
     }
 
-    // Adds the code of a step, if it has one and there is memory for it. Returns whether it was added.
+    // Adds the code of a step, if it has one and there is memory for it. Returns whether it was
+    // added.
     #[inline(always)]
     fn push_code<I: KeptInput>(&mut self, input: &I, effect: &Effect<Global>) -> bool
         requires { 1 ≤ self.old.room }
@@ -128,11 +130,12 @@ impl StepLog {
         {
             return false;
         }
-        self.starts.push_reserved(Start::Coded(start as u32));
+        self.starts.push_reserved(StepStart::Coded(start as u32));
         true
     }
 
-    /// Adds a step of this input and this effect, for which there is room. The effect has to be filled anew before it is read again.
+    /// Adds a step of this input and this effect, for which there is room. The effect has to be
+    /// filled anew before it is read again.
     #[inline(always)]
     pub fn push<I: KeptInput>(&mut self, input: I, effect: &mut Effect<Global>)
         requires room { LogHasRoom self.old }
@@ -145,7 +148,8 @@ impl StepLog {
         }
     }
 
-    // Adds a step as it is, for which there is room. It is not inlined, since most steps have a code.
+    // Adds a step as it is, for which there is room. It is not inlined, since most steps have a
+    // code.
     #[inline(never)]
     fn push_whole(&mut self, input: PlainInput<Global>, effect: &mut Effect<Global>)
         requires room { LogHasRoom self.old }
@@ -156,7 +160,7 @@ impl StepLog {
         // `reserve` has seen to it that the place fits into 32 bits.
         let place = self.whole.len() as u32;
         self.whole.push(input, effect);
-        self.starts.push_reserved(Start::Whole(place));
+        self.starts.push_reserved(StepStart::Whole(place));
     }
 
     /// The step at this place, as it is kept.
@@ -165,8 +169,8 @@ impl StepLog {
         ensures { (s : RunStep) → slice_get self.now.steps place ≡ Some s → IsStored s result }
     {
         match self.starts[place] {
-            Start::Coded(start) => Stored::Coded(code_from(self.codes.as_slice(), start)),
-            Start::Whole(at) => Stored::Whole(self.whole.record(at as usize)),
+            StepStart::Coded(start) => Stored::Coded(code_from(self.codes.as_slice(), start)),
+            StepStart::Whole(at) => Stored::Whole(self.whole.record(at as usize)),
         }
     }
 
@@ -209,22 +213,22 @@ impl StepLog {
         }
     }
 
-    /// Fills an effect with all that the step at this place gave; what it held is gone. `NoMemory` where memory is refused: the effect may then
-    /// be filled in part.
+    /// Fills an effect with all that the step at this place gave; what it held is gone. `NoMemory`
+    /// where memory is refused: the effect may then be filled in part.
     pub fn fill(&self, place: usize, effect: &mut Effect<Global>) -> Result<(), NoMemory>
         requires { place < length self.now.steps }
         ensures { OnOk result ((s : RunStep) → slice_get self.now.steps place ≡ Some s
             → outcome_of effect.new ≡ s.outcome) }
     {
         match self.starts[place] {
-            Start::Coded(start) => {
+            StepStart::Coded(start) => {
                 let mut code = code_from(self.codes.as_slice(), start);
                 // What the step gave stands behind the actor and the moment.
                 let _head = take_head(&mut code);
                 take_outcome(&mut code, effect)?;
                 Ok(())
             }
-            Start::Whole(at) => {
+            StepStart::Whole(at) => {
                 self.whole.fill(at as usize, effect)?;
                 Ok(())
             }

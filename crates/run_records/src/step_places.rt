@@ -5,7 +5,8 @@ use s6_events::NoMemory;
 use std::alloc::Global;
 use std::marker::Model;
 
-/// The room that a list takes with its first step: a block of more than 32 MiB, as those of the log (`ROOM` in `run.rt`).
+/// The room that a list takes with its first step: a block of more than 32 MiB, as those of the log
+/// (`LOG_ROOM` in `run.rt`).
 const FIRST_ROOM: usize = 4_194_305;
 
 /// The places of one actor's steps in a run, oldest first.

@@ -1,4 +1,5 @@
-//! Steps that are kept as they are: they have no code in bytes, or memory for it was refused. Their orders stand in one list for all.
+//! Steps that are kept as they are: they have no code in bytes, or memory for it was refused. Their
+//! orders stand in one list for all.
 ghost use Rattle.std.specs.Prelude.{◌≡◌, ◌<◌, ◌≤◌, [], ◌∷◌, ◌++◌, length, OnOk, IfOk, slice_get, Some};
 ghost use Rattle.tree_core.specs.Effect.{outcome_of};
 ghost use Rattle.tree_core.specs.Limits.{order_limit};
@@ -12,7 +13,8 @@ use std::marker::Model;
 use std::mem;
 use tree_core::{Effect, ORDER_LIMIT, PlainInput, Reply};
 
-/// Steps that are kept as they are, oldest first: each input with all that it gave. Contracts see them so.
+/// Steps that are kept as they are, oldest first: each input with all that it gave. Contracts see
+/// them so.
 #[derive(Drop)]
 pub struct WholeSteps {
     records: Vec<Record>,
@@ -48,7 +50,8 @@ impl WholeSteps {
         self.records.len()
     }
 
-    /// Makes room for one step more, whatever it gives. `NoMemory` where memory is refused; the steps stay.
+    /// Makes room for one step more, whatever it gives. `NoMemory` where memory is refused; the
+    /// steps stay.
     pub fn reserve(&mut self) -> Result<(), NoMemory>
         ensures steps { self.new.steps ≡ self.old.steps }
         ensures room { OnOk result (WholeHasRoom self.new) }
@@ -58,8 +61,9 @@ impl WholeSteps {
         Ok(())
     }
 
-    /// Adds a step of this input and this effect, for which there is room. The effect's reply, events, matches and releases move into the
-    /// step; its orders are copied. The effect has to be filled anew before it is read again.
+    /// Adds a step of this input and this effect, for which there is room. The effect's reply,
+    /// events, matches and releases move into the step; its orders are copied. The effect has to be
+    /// filled anew before it is read again.
     pub fn push(&mut self, input: PlainInput<Global>, effect: &mut Effect<Global>)
         requires room { WholeHasRoom self.old }
         requires orders { length effect.old.orders.items ≤ order_limit }
@@ -98,8 +102,8 @@ impl WholeSteps {
         &self.records[place]
     }
 
-    /// Fills an effect with all that the step at this place gave; what it held is gone. `NoMemory` where memory is refused: the effect may then
-    /// be filled in part.
+    /// Fills an effect with all that the step at this place gave; what it held is gone. `NoMemory`
+    /// where memory is refused: the effect may then be filled in part.
     pub fn fill(&self, place: usize, effect: &mut Effect<Global>) -> Result<(), NoMemory>
         requires { place < length self.now.steps }
         ensures { OnOk result ((s : RunStep) → slice_get self.now.steps place ≡ Some s

@@ -21,14 +21,15 @@ use tree_core::{Effect, PlainInput, Reply};
 /// Why a run was not written whole.
 #[derive(Clone, Copy, Debug, PartialEq, Eq, Error)]
 pub enum RunFault {
-    /// The writer answered an error, or took no byte. The beginning was written, which may end anywhere.
+    /// The writer answered an error, or took no byte. The beginning was written, which may end
+    /// anywhere.
     #[error("the run was not written")]
     Write,
     /// Memory was refused. The steps before were written.
     #[error("out of memory")]
     NoMemory,
-    /// The input of the step of this number, from 1, has no spelling, or one that is too long for an input line. The steps before were
-    /// written.
+    /// The input of the step of this number, from 1, has no spelling, or one that is too long for
+    /// an input line. The steps before were written.
     #[error("the input of step {0} has no spelling")]
     Unspelt(u64),
 }
@@ -59,8 +60,9 @@ pub(crate) fn write_head<W: Write>(head: bool, writer: &mut W) -> Result<(), Run
     Ok(())
 }
 
-// Writes the lines of one step, as version 2 of a script (`Two`) has them: its input, and its reply. `text` and `effect` are working memory,
-// used again for each step; `number` names the step in a fault.
+// Writes the lines of one step, as version 2 of a script (`Two`) has them: its input, and its
+// reply. `text` and `effect` are working memory, used again for each step; `number` names the step
+// in a fault.
 pub(crate) fn write_stored<W: Write>(
     alloc: Global,
     text: &mut Vec<u8>,
@@ -115,8 +117,8 @@ fn read_step(
     Ok(PlainInput { actor, at, act })
 }
 
-// Writes the lines of one step, as version 2 of a script (`Two`) has them: its input, and its reply. `text` is working memory, used again for
-// each step; `number` names the step in a fault.
+// Writes the lines of one step, as version 2 of a script (`Two`) has them: its input, and its
+// reply. `text` is working memory, used again for each step; `number` names the step in a fault.
 fn write_step<W: Write>(
     alloc: Global,
     text: &mut Vec<u8>,

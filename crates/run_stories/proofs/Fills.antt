@@ -3,7 +3,7 @@ use Rattle.std.proofs.Common.{◌≡◌, ℕ, ◌+◌, ◌<◌, ◌≤◌, List,
 use Rattle.std.proofs.lemmas.Bool.{le-leb, lt-leb, ltb-true, ltb-false}
 use Rattle.std.proofs.lemmas.List.{at_drop_more, drop_all}
 use Rattle.run_stories.specs.declared.intervals.Interval.{Interval}
-use Rattle.run_stories.specs.declared.lanes.Change.{Change}
+use Rattle.run_stories.specs.declared.lanes.ShadeChange.{ShadeChange}
 use Rattle.run_stories.specs.declared.scale.Scale.{Scale}
 use Rattle.run_stories.specs.declared.shade.Shade.{Shade}
 use Rattle.run_stories.specs.Intervals.{Fill, place_of, shown_at, with_interval}
@@ -30,15 +30,15 @@ fill_on shown start intervals from to shade f stays = by (nat_lt from to) refl
         (sym (omega (arith, ltb-true from to e))) (fill_more shown start intervals from to shade f (ltb-true from to e) stays)
     by false e = subst (Fill shown start intervals) (sym (omega (arith, ltb-false from to e))) f
 
-module _ (scale : Scale) (shown : ℕ → Shade) (from k : ℕ) (shade : Shade) (changes : List Change) (change : Change)
+module _ (scale : Scale) (shown : ℕ → Shade) (from k : ℕ) (shade : Shade) (changes : List ShadeChange) (change : ShadeChange)
     (rest : (place : ℕ) → from ≤ place → shown place ≡ shown_at scale shade (drop k changes) place) where
   -- the next change decides
   next : (place : ℕ) → k < length changes → change ≡ get_or changes k change → from ≤ place
       → shown place ≡ cond (nat_le (place_of scale change.at) place) (shown_at scale change.shade (drop (k + 1) changes) place) shade
   next place lt is le =
       rest place le
-      ∙ (at_drop_more (λ (ds : List Change). shown_at scale shade ds place) changes k change lt
-      ∙ ap (λ (d : Change). shown_at scale shade (d ∷ drop (k + 1) changes) place) (sym is))
+      ∙ (at_drop_more (λ (ds : List ShadeChange). shown_at scale shade ds place) changes k change lt
+      ∙ ap (λ (d : ShadeChange). shown_at scale shade (d ∷ drop (k + 1) changes) place) (sym is))
 
   -- up to its place the shade stays
   pub stays : k < length changes → change ≡ get_or changes k change → (to : ℕ) → to ≡ place_of scale change.at → Stays shown from to shade
@@ -56,8 +56,8 @@ module _ (scale : Scale) (shown : ℕ → Shade) (from k : ℕ) (shade : Shade) 
       (le-leb (place_of scale change.at) place (subst (λ (t : ℕ). t ≤ place) e (omega (arith, le))))
 
 -- behind the last change the shade stays
-pub stays_on : (scale : Scale) (shown : ℕ → Shade) (from k : ℕ) (shade : Shade) (changes : List Change)
+pub stays_on : (scale : Scale) (shown : ℕ → Shade) (from k : ℕ) (shade : Shade) (changes : List ShadeChange)
     → ((place : ℕ) → from ≤ place → shown place ≡ shown_at scale shade (drop k changes) place) → length changes ≤ k → (to : ℕ)
     → Stays shown from to shade
 stays_on scale shown from k shade changes rest none to place le less =
-    sym (rest place le ∙ ap (λ (ds : List Change). shown_at scale shade ds place) (drop_all k changes none))
+    sym (rest place le ∙ ap (λ (ds : List ShadeChange). shown_at scale shade ds place) (drop_all k changes none))

@@ -1,7 +1,7 @@
 -- The intervals of a lane, in tenths of a pixel.
 use Rattle.std.specs.Prelude.{◌≡◌, ℕ, ◌-◌, ◌*◌, ◌/◌, ◌<◌, ◌≤◌, List, [], ◌∷◌, ◌++◌, nat_le, nat_lt, min, max, if◌then◌else◌}
 use Rattle.run_stories.specs.declared.intervals.Interval.{Interval}
-use Rattle.run_stories.specs.declared.lanes.Change.{Change}
+use Rattle.run_stories.specs.declared.lanes.ShadeChange.{ShadeChange}
 use Rattle.run_stories.specs.declared.scale.Scale.{Scale}
 use Rattle.run_stories.specs.declared.shade.Shade.{Shade}
 
@@ -10,7 +10,7 @@ abbrev pub place_of : Scale → ℕ → ℕ
 place_of scale at = min ((at - scale.first) * 10000 / max (scale.last - scale.first) 1) 10000
 
 -- what is shown at a place: the shade of the last change up to there, or this shade where there is no such change
-abbrev pub shown_at : Scale → Shade → List Change → ℕ → Shade
+abbrev pub shown_at : Scale → Shade → List ShadeChange → ℕ → Shade
 shown_at scale shade [] place = shade
 shown_at scale shade (change ∷ more) place =
     if nat_le (place_of scale change.at) place then shown_at scale change.shade more place else shade

@@ -1,5 +1,5 @@
-//! The words of an act (what an input asks or reports) in a story: what it is, what it is about, and whether it has a line of its own once it
-//! is done.
+//! The words of an act (what an input asks or reports) in a story: what it is, what it is about,
+//! and whether it has a line of its own once it is done.
 ghost use Rattle.std.specs.Prelude.{◌≡◌, ◌++◌, ◌∷◌, OnOk};
 ghost use Rattle.std.specs.List.{flat_map};
 ghost use Rattle.run_stories.specs.Requests.{is_told};
@@ -13,8 +13,9 @@ use std::alloc::{AllocError, Allocator};
 use supervise_core::Row;
 use tree_core::{Act, ScanOrder, Target};
 
-/// Whether an act has a line of its own once it is done. What a user does to the tree has one, and so has a failed start. A question or a
-/// tick has none; a scan, a wait and a subscription are told by their replies, and the other reports by their events.
+/// Whether an act has a line of its own once it is done. What a user does to the tree has one, and
+/// so has a failed start. A question or a tick has none; a scan, a wait and a subscription are told
+/// by their replies, and the other reports by their events.
 pub fn is_told<A: Allocator>(act: &Act<A>) -> bool
     ensures { result ≡ is_told act.now }
 {
@@ -30,8 +31,8 @@ pub fn is_told<A: Allocator>(act: &Act<A>) -> bool
     }
 }
 
-/// What an act is, with a space behind it where `push_body` adds more. Of the two commands to all services, nuke ends those that are not listed,
-/// terminate ends all.
+/// What an act is, with a space behind it where `push_body` adds more. Of the two commands to all
+/// services, nuke ends those that are not listed, terminate ends all.
 pub fn head_of<A: Allocator>(act: &Act<A>) -> &'static [u8]
     ensures { result.now ≡ head_words act.now }
 {
@@ -58,7 +59,8 @@ pub fn head_of<A: Allocator>(act: &Act<A>) -> &'static [u8]
     }
 }
 
-// Adds to the text which event directory is meant: by the name of its service, or as `directory` with its own name.
+// Adds to the text which event directory is meant: by the name of its service, or as `directory`
+// with its own name.
 fn push_target<A: Allocator>(text: &mut Vec<u8, A>, target: &Target) -> Result<(), AllocError>
     ensures { OnOk result (text.new.items ≡ text.old.items ++ target_text target.now) }
 {
@@ -71,7 +73,8 @@ fn push_target<A: Allocator>(text: &mut Vec<u8, A>, target: &Target) -> Result<(
     }
 }
 
-// The words of a waiter's mode, with a space behind them: whether it waits for all of its services or for one of them.
+// The words of a waiter's mode, with a space behind them: whether it waits for all of its services
+// or for one of them.
 fn mode_bytes(mode: Mode) -> &'static [u8]
     ensures { result.now ≡ mode_words mode }
 {
@@ -125,7 +128,8 @@ fn push_names<A: Allocator>(text: &mut Vec<u8, A>, names: &[Name]) -> Result<(),
     Ok(())
 }
 
-// Adds to the text how long a waiter waits at most, in seconds; nothing where it waits for ever. `timeout` is in milliseconds, 0 for none.
+// Adds to the text how long a waiter waits at most, in seconds; nothing where it waits for ever.
+// `timeout` is in milliseconds, 0 for none.
 fn push_patience<A: Allocator>(text: &mut Vec<u8, A>, timeout: u32) -> Result<(), AllocError>
     ensures { OnOk result (text.new.items ≡ text.old.items ++ patience_text timeout) }
 {
@@ -136,7 +140,8 @@ fn push_patience<A: Allocator>(text: &mut Vec<u8, A>, timeout: u32) -> Result<()
     Ok(())
 }
 
-// Adds to the text what a waiter waits for: of which services, what they are to be, and for how long at most.
+// Adds to the text what a waiter waits for: of which services, what they are to be, and for how
+// long at most.
 fn push_wait<A: Allocator>(
     text: &mut Vec<u8, A>,
     condition: Condition,
@@ -153,8 +158,9 @@ fn push_wait<A: Allocator>(
     push_patience(text, timeout)
 }
 
-/// Adds to the text what an act is about: whom it names, and what it sends or waits for. A report names its service by a serial: its name is found
-/// in these rows. An error where memory is refused.
+/// Adds to the text what an act is about: whom it names, and what it sends or waits for. A report
+/// names its service by a serial: its name is found in these rows. An error where memory is
+/// refused.
 pub fn push_body<A: Allocator>(
     text: &mut Vec<u8, A>,
     rows: &[Row],

@@ -1,5 +1,6 @@
-//! The drawing of a timeline: a picture in SVG that needs no other file. It has a lane for each service name, cut by shades (what the service is),
-//! a legend of the shades above, and an axis with moments below.
+//! The drawing of a timeline: a picture in SVG that needs no other file. It has a lane for each
+//! service name, cut by shades (what the service is), a legend of the shades above, and an axis
+//! with moments below.
 use crate::intervals::Interval;
 use crate::scale::{MARKS, Scale, WIDTH};
 use crate::shade::Shade;
@@ -53,7 +54,8 @@ pub struct Layout {
 }
 
 impl Layout {
-    /// The layout for `lanes` lanes, whose longest name has `letters` letters: the names stand left of the lanes, the legend above them.
+    /// The layout for `lanes` lanes, whose longest name has `letters` letters: the names stand left
+    /// of the lanes, the legend above them.
     pub fn of(lanes: usize, letters: usize) -> Layout {
         let left = (letters as u64).saturating_mul(LETTER);
         let height = (lanes as u64).saturating_mul(LANE);
@@ -77,7 +79,8 @@ fn colour_of(shade: Shade) -> &'static str {
     }
 }
 
-// How thick the line of a shade is, in pixels, so that shades can be told apart without their colours too.
+// How thick the line of a shade is, in pixels, so that shades can be told apart without their
+// colours too.
 fn thickness_of(shade: Shade) -> u64 {
     match shade {
         Shade::Absent => 0,
@@ -104,7 +107,8 @@ fn word_of(shade: Shade) -> &'static str {
 
 // Writes the beginning of the picture: its size, its fonts, its title, and a white ground.
 fn write_head<W: Write>(writer: &mut W, layout: Layout) -> io::Result<()> {
-    // To the right of the lanes some space is left (`RIGHT`), and below the axis there is room for its words (`BOTTOM`).
+    // To the right of the lanes some space is left (`RIGHT`), and below the axis there is room for
+    // its words (`BOTTOM`).
     let width = layout.left.saturating_add(LANES_WIDTH + RIGHT);
     let height = layout.axis.saturating_add(BOTTOM);
     write!(
@@ -141,8 +145,8 @@ fn write_legend<W: Write>(writer: &mut W, layout: Layout) -> io::Result<()> {
     Ok(())
 }
 
-// Writes a mark of the axis: a line through all lanes, and the moment below it, in seconds. It has three decimals where the `step` from mark to
-// mark, in milliseconds, is less than a second.
+// Writes a mark of the axis: a line through all lanes, and the moment below it, in seconds. It has
+// three decimals where the `step` from mark to mark, in milliseconds, is less than a second.
 fn write_mark<W: Write>(
     writer: &mut W,
     layout: Layout,
@@ -181,7 +185,8 @@ fn write_marks<W: Write>(writer: &mut W, layout: Layout, scale: &Scale) -> io::R
     Ok(())
 }
 
-/// Writes all of the picture but the lanes and its end: the legend, and the time along the bottom with its unit in the middle.
+/// Writes all of the picture but the lanes and its end: the legend, and the time along the bottom
+/// with its unit in the middle.
 pub fn write_frame<W: Write>(writer: &mut W, layout: Layout, scale: &Scale) -> io::Result<()> {
     write_head(writer, layout)?;
     write_legend(writer, layout)?;
@@ -207,7 +212,8 @@ fn write_tenths<W: Write>(writer: &mut W, tenths: u64) -> io::Result<()> {
     }
 }
 
-// Writes an interval, whose places are in tenths of a pixel, as a part of a path: a move (M) to its beginning, and a line (h) to its end.
+// Writes an interval, whose places are in tenths of a pixel, as a part of a path: a move (M) to its
+// beginning, and a line (h) to its end.
 fn write_interval<W: Write>(writer: &mut W, interval: &Interval) -> io::Result<()> {
     writer.write_all(b"M")?;
     write_tenths(writer, interval.from)?;
@@ -215,7 +221,8 @@ fn write_interval<W: Write>(writer: &mut W, interval: &Interval) -> io::Result<(
     write_tenths(writer, interval.to.saturating_sub(interval.from))
 }
 
-// Writes the intervals of this shade as one line with gaps; nothing where there is no such interval.
+// Writes the intervals of this shade as one line with gaps; nothing where there is no such
+// interval.
 fn write_shade<W: Write>(writer: &mut W, intervals: &[Interval], shade: Shade) -> io::Result<()> {
     if !intervals.iter().any(|interval| interval.shade == shade) {
         return Ok(());
@@ -233,7 +240,8 @@ fn write_shade<W: Write>(writer: &mut W, intervals: &[Interval], shade: Shade) -
     writer.write_all(b"\"/>\n")
 }
 
-/// Writes a lane: its name at the left, and its intervals, those of each shade as one path. `place` is its number from the top, from 0.
+/// Writes a lane: its name at the left, and its intervals, those of each shade as one path. `place`
+/// is its number from the top, from 0.
 pub fn write_lane<W: Write>(
     writer: &mut W,
     layout: Layout,

@@ -1,4 +1,5 @@
-//! The lines of a story for what a step gives beside its reply: events, orders, matches and releases. A line begins with its moment.
+//! The lines of a story for what a step gives beside its reply: events, orders, matches and
+//! releases. A line begins with its moment.
 ghost use Rattle.std.specs.Prelude.{◌≡◌, ◌==◌, ◌++◌, codes, decimal, find, option_map, OnOk};
 ghost use Rattle.std.specs.List.{flat_map};
 ghost use Rattle.tree_core.specs.Effect.{outcome_of};
@@ -65,7 +66,8 @@ fn push_row_name<A: Allocator>(
     }
 }
 
-/// Adds a service by its name in these rows, or by its serial where it has no row there. An error where memory is refused.
+/// Adds a service by its name in these rows, or by its serial where it has no row there. An error
+/// where memory is refused.
 pub fn push_service<A: Allocator>(
     text: &mut Vec<u8, A>,
     rows: &[Row],
@@ -83,7 +85,8 @@ fn push_process<A: Allocator>(text: &mut Vec<u8, A>, pid: u32) -> Result<(), All
     push_number(text, u64::from(pid))
 }
 
-// Adds the words of a spawn to the text, with the process number where the step's act told it (`cause`).
+// Adds the words of a spawn to the text, with the process number where the step's act told it
+// (`cause`).
 fn push_spawned<A: Allocator>(text: &mut Vec<u8, A>, cause: Cause) -> Result<(), AllocError>
     ensures { OnOk result (text.new.items ≡ text.old.items ++ spawned_words cause) }
 {
@@ -96,7 +99,8 @@ fn push_spawned<A: Allocator>(text: &mut Vec<u8, A>, cause: Cause) -> Result<(),
     }
 }
 
-// Adds the words of a death to the text, with how `run` ended where the step's act told it (`cause`).
+// Adds the words of a death to the text, with how `run` ended where the step's act told it
+// (`cause`).
 fn push_died<A: Allocator>(text: &mut Vec<u8, A>, cause: Cause) -> Result<(), AllocError>
     ensures { OnOk result (text.new.items ≡ text.old.items ++ died_words cause) }
 {
@@ -109,8 +113,8 @@ fn push_died<A: Allocator>(text: &mut Vec<u8, A>, cause: Cause) -> Result<(), Al
     }
 }
 
-// Adds the words of a service that is down with its `finish` done to the text: how `finish` ended where the step's act told it (`cause`), or just
-// `down`, as where no `finish` ran.
+// Adds the words of a service that is down with its `finish` done to the text: how `finish` ended
+// where the step's act told it (`cause`), or just `down`, as where no `finish` ran.
 fn push_done<A: Allocator>(text: &mut Vec<u8, A>, cause: Cause) -> Result<(), AllocError>
     ensures { OnOk result (text.new.items ≡ text.old.items ++ done_words cause) }
 {
@@ -123,7 +127,8 @@ fn push_done<A: Allocator>(text: &mut Vec<u8, A>, cause: Cause) -> Result<(), Al
     }
 }
 
-// Adds the words of an event to the text, by its mark. `cause` is what the step's act told of a program, such as how it ended.
+// Adds the words of an event to the text, by its mark. `cause` is what the step's act told of a
+// program, such as how it ended.
 fn push_event_words<A: Allocator>(
     text: &mut Vec<u8, A>,
     cause: Cause,
@@ -142,7 +147,8 @@ fn push_event_words<A: Allocator>(
     }
 }
 
-// Adds the beginning of a line about a service to the text: the moment, and the service, which is named by these rows.
+// Adds the beginning of a line about a service to the text: the moment, and the service, which is
+// named by these rows.
 fn push_front<A: Allocator>(
     text: &mut Vec<u8, A>,
     now: At,
@@ -157,7 +163,8 @@ fn push_front<A: Allocator>(
     Ok(())
 }
 
-/// Adds a line about a service, with these words behind its name. Its name is found in these rows. An error where memory is refused.
+/// Adds a line about a service, with these words behind its name. Its name is found in these rows.
+/// An error where memory is refused.
 pub fn push_service_line<A: Allocator>(
     text: &mut Vec<u8, A>,
     now: At,
@@ -173,7 +180,8 @@ pub fn push_service_line<A: Allocator>(
     text.extend_from_slice(b"\n")
 }
 
-// Adds the line of an event: the moment, its service, which is named by these rows, and its words. `cause` is what the step's act told.
+// Adds the line of an event: the moment, its service, which is named by these rows, and its words.
+// `cause` is what the step's act told.
 fn push_event<A: Allocator>(
     text: &mut Vec<u8, A>,
     now: At,
@@ -224,7 +232,8 @@ fn kill_bytes() -> &'static [u8]
     b"signal KILL to finish of "
 }
 
-// Adds the line of a signal: the moment, these words, and the name of the service, which is found in these rows.
+// Adds the line of a signal: the moment, these words, and the name of the service, which is found
+// in these rows.
 fn push_signal_line<A: Allocator>(
     text: &mut Vec<u8, A>,
     now: At,
@@ -241,7 +250,8 @@ fn push_signal_line<A: Allocator>(
     text.extend_from_slice(b"\n")
 }
 
-// Adds the line of an order: what is to be started or signalled for which service. These rows name the service.
+// Adds the line of an order: what is to be started or signalled for which service. These rows name
+// the service.
 fn push_order<A: Allocator>(
     text: &mut Vec<u8, A>,
     now: At,
@@ -290,7 +300,8 @@ pub fn subscription_bytes() -> &'static [u8]
     b"subscription "
 }
 
-// Adds the end of a match's line: the letter at which the text matched, or that the subscription gave up since the text grew too long.
+// Adds the end of a match's line: the letter at which the text matched, or that the subscription
+// gave up since the text grew too long.
 fn push_hit<A: Allocator>(text: &mut Vec<u8, A>, hit: Hit) -> Result<(), AllocError>
     ensures { OnOk result (text.new.items ≡ text.old.items ++ hit_words hit) }
 {
@@ -303,7 +314,8 @@ fn push_hit<A: Allocator>(text: &mut Vec<u8, A>, hit: Hit) -> Result<(), AllocEr
     }
 }
 
-// Adds the line of a match: the moment, the subscription by its serial, and the letter at which its text matched.
+// Adds the line of a match: the moment, the subscription by its serial, and the letter at which its
+// text matched.
 fn push_match<A: Allocator>(text: &mut Vec<u8, A>, now: At, found: &Match) -> Result<(), AllocError>
     ensures { OnOk result (text.new.items ≡ text.old.items ++ match_line now found.now) }
 {
@@ -338,7 +350,8 @@ fn verdict_bytes(verdict: Verdict) -> &'static [u8]
     }
 }
 
-// Adds the line of a release: the moment, the waiter by its serial, and how its wait ended (its verdict).
+// Adds the line of a release: the moment, the waiter by its serial, and how its wait ended (its
+// verdict).
 fn push_release<A: Allocator>(
     text: &mut Vec<u8, A>,
     now: At,
@@ -365,8 +378,9 @@ fn push_releases<A: Allocator>(
     Ok(())
 }
 
-/// Adds a line for each event, then for each order, match and release of a step, each kind in the order in which they were made. `cause` is
-/// what the act told; services are named by these rows. An error where memory is refused.
+/// Adds a line for each event, then for each order, match and release of a step, each kind in the
+/// order in which they were made. `cause` is what the act told; services are named by these rows.
+/// An error where memory is refused.
 pub fn push_effect<A: Allocator>(
     text: &mut Vec<u8, A>,
     now: At,

@@ -1,9 +1,10 @@
-//! The intervals of a lane of a timeline, in tenths of a pixel: each shows one shade, which is what the service was.
+//! The intervals of a lane of a timeline, in tenths of a pixel: each shows one shade, which is what
+//! the service was.
 ghost use Rattle.std.specs.Prelude.{◌≡◌, OnOk};
 ghost use Rattle.run_stories.specs.Intervals.{Fill, shown_at, with_interval};
 ghost use Rattle.run_stories.specs.declared.shade.Shade.TheVariants.{Absent};
 
-use crate::lanes::Change;
+use crate::lanes::ShadeChange;
 use crate::scale::{Scale, WIDTH};
 use crate::shade::Shade;
 use std::alloc::{AllocError, Allocator};
@@ -31,11 +32,12 @@ fn cut<A: Allocator>(
     Ok(())
 }
 
-/// Makes the intervals those of a lane with these changes, each of which begins a shade at a moment. They fill the whole width, one behind the
-/// other, and show at each tenth of a pixel the shade of the last change up to there. An error where memory is refused.
+/// Makes the intervals those of a lane with these changes, each of which begins a shade at a
+/// moment. They fill the whole width, one behind the other, and show at each tenth of a pixel the
+/// shade of the last change up to there. An error where memory is refused.
 pub fn cut_lane<A: Allocator>(
     scale: &Scale,
-    changes: &[Change],
+    changes: &[ShadeChange],
     intervals: &mut Vec<Interval, A>,
 ) -> Result<(), AllocError>
     ensures { OnOk result

@@ -1,8 +1,9 @@
-//! The lanes of a timeline, one for each service name: what each shows (a shade: up, ready, down and so on), and from when on.
+//! The lanes of a timeline, one for each service name: what each shows (a shade: up, ready, down
+//! and so on), and from when on.
 ghost use Rattle.std.specs.Prelude.{◌<◌, IfSome, IfOk, length};
 
 use crate::effect_words::row_of;
-use crate::shade::{Shade, Standing, shade_of, standing_after};
+use crate::shade::{Shade, Supervision, shade_of, supervision_after};
 use s6_events::{At, Mark, Name};
 use std::alloc::{AllocError, Allocator};
 use supervise_core::Row;
@@ -10,7 +11,7 @@ use tree_core::{Effect, Tree};
 
 /// A change of a lane: from this moment on it shows this shade.
 #[derive(Clone, Copy)]
-pub struct Change {
+pub struct ShadeChange {
     pub at: At,
     pub shade: Shade,
 }
@@ -20,8 +21,8 @@ pub struct Change {
 pub struct TimelineLane<A: Allocator> {
     pub name: Name,
     // What its marks say of the service that has this name, or had it last.
-    standing: Standing,
-    pub changes: Vec<Change, A>,
+    supervision: Supervision,
+    pub changes: Vec<ShadeChange, A>,
 }
 
 /// The lanes of all services, in the order in which they were added.
@@ -30,9 +31,10 @@ pub struct TimelineLanes<A: Allocator> {
     pub lanes: Vec<TimelineLane<A>, A>,
 }
 
-// Adds a change of a lane, if the shade is another than before. Of two changes at one moment the later one stays.
+// Adds a change of a lane, if the shade is another than before. Of two changes at one moment the
+// later one stays.
 fn note<A: Allocator>(
-    changes: &mut Vec<Change, A>,
+    changes: &mut Vec<ShadeChange, A>,
     at: At,
     shade: Shade,
 ) -> Result<(), AllocError> {
@@ -43,7 +45,7 @@ fn note<A: Allocator>(
         }
         _ => {}
     }
-    changes.push(Change { at, shade })?;
+    changes.push(ShadeChange { at, shade })?;
     Ok(())
 }
 
@@ -55,7 +57,8 @@ impl<A: Allocator + Copy> TimelineLanes<A> {
         }
     }
 
-    // The place of the lane with this name. Where there is no such lane, it is made: it shows nothing yet.
+    // The place of the lane with this name. Where there is no such lane, it is made: it shows
+    // nothing yet.
     fn place_of(&mut self, alloc: A, name: Name) -> Result<usize, AllocError>
         ensures { IfOk result (λ place. place < length self.new.lanes.items) }
     {
@@ -71,14 +74,14 @@ impl<A: Allocator + Copy> TimelineLanes<A> {
         self.lanes.push(TimelineLane {
             name,
             // Its supervisor is there, until a mark says otherwise.
-            standing: Standing::Supervised,
+            supervision: Supervision::Supervised,
             changes: Vec::new(alloc),
         })?;
         Ok(place)
     }
 
-    // Notes what the lane of this name shows now. `mark` is a mark that its service has given in the step, if any; `row` is the status row of the
-    // service, None where it is gone.
+    // Notes what the lane of this name shows now. `mark` is a mark that its service has given in
+    // the step, if any; `row` is the status row of the service, None where it is gone.
     fn hear(
         &mut self,
         alloc: A,
@@ -90,19 +93,20 @@ impl<A: Allocator + Copy> TimelineLanes<A> {
         let place = self.place_of(alloc, name)?;
         let lane = &mut self.lanes[place];
         if let Some(mark) = mark {
-            lane.standing = standing_after(lane.standing, mark);
+            lane.supervision = supervision_after(lane.supervision, mark);
         }
-        // What the marks say of the service (its standing) and its row give the shade.
+        // What the marks say of the service (its supervision) and its row give the shade.
         let shade = match row {
-            Some(row) => shade_of(lane.standing, &row),
+            Some(row) => shade_of(lane.supervision, &row),
             None => Shade::Absent,
         };
         note(&mut lane.changes, now, shade)
     }
 
-    /// Notes what lanes show after a step: those of the services with an event in it, and that of `named`, if there is such a service. `named` is
-    /// the service to which the step sent letters, which may change what its lane shows without an event. An event has the serial of its service:
-    /// these rows have its name. An error where memory is refused.
+    /// Notes what lanes show after a step: those of the services with an event in it, and that of
+    /// `named`, if there is such a service. `named` is the service to which the step sent letters,
+    /// which may change what its lane shows without an event. An event has the serial of its
+    /// service: these rows have its name. An error where memory is refused.
     pub fn note_step(
         &mut self,
         alloc: A,

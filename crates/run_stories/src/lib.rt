@@ -1,5 +1,5 @@
-//! What has happened in a run, told to people: its script as a story with a line for each event, and as a timeline with a lane for each
-//! service name.
+//! What has happened in a run, told to people: its script as a story with a line for each event,
+//! and as a timeline with a lane for each service name.
 #![tactic(auto)]
 
 mod act_words;

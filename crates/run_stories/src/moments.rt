@@ -21,7 +21,8 @@ fn push_three_digits<A: Allocator>(text: &mut Vec<u8, A>, number: u64) -> Result
     ])
 }
 
-/// Adds to the text a number of milliseconds (`millis`) in seconds, with three decimals. An error where memory is refused.
+/// Adds to the text a number of milliseconds (`millis`) in seconds, with three decimals. An error
+/// where memory is refused.
 pub fn push_seconds<A: Allocator>(text: &mut Vec<u8, A>, millis: u64) -> Result<(), AllocError>
     ensures { OnOk result (text.new.items ≡ text.old.items ++ seconds_text millis) }
 {
@@ -39,7 +40,8 @@ pub fn push_moment<A: Allocator>(text: &mut Vec<u8, A>, now: At) -> Result<(), A
     Ok(())
 }
 
-/// Adds to the text the moment with which a line begins, a space, a word (such as `wait `), and a serial. An error where memory is refused.
+/// Adds to the text the moment with which a line begins, a space, a word (such as `wait `), and a
+/// serial. An error where memory is refused.
 pub fn push_serial<A: Allocator>(
     text: &mut Vec<u8, A>,
     now: At,

@@ -11,8 +11,9 @@ use std::alloc::{AllocError, Allocator};
 use supervise_core::Row;
 use tree_core::{Listed, Refusal, Reply};
 
-// The word by which a story says why an act was refused. late: a report of another run than the present one; reserved: a message to the event
-// directory of a service, which takes none; spent: the tree takes no more steps.
+// The word by which a story says why an act was refused. late: a report of another run than the
+// present one; reserved: a message to the event directory of a service, which takes none; spent:
+// the tree takes no more steps.
 fn reason_bytes(refusal: Refusal) -> &'static [u8]
     ensures { result.now ≡ reason_word refusal }
 {
@@ -46,7 +47,8 @@ fn push_act<A: Allocator>(
     text.extend_from_slice(body)
 }
 
-// Adds the line of an act that was refused: what it is (`head`), what it is about (`body`), and why it was refused.
+// Adds the line of an act that was refused: what it is (`head`), what it is about (`body`), and why
+// it was refused.
 fn push_refused<A: Allocator>(
     text: &mut Vec<u8, A>,
     now: At,
@@ -63,7 +65,8 @@ fn push_refused<A: Allocator>(
     text.extend_from_slice(b"\n")
 }
 
-// Adds the line of an act that was done, if it has one (`told`): what it is (`head`), and what it is about (`body`).
+// Adds the line of an act that was done, if it has one (`told`): what it is (`head`), and what it
+// is about (`body`).
 fn push_act_done<A: Allocator>(
     text: &mut Vec<u8, A>,
     now: At,
@@ -81,7 +84,8 @@ fn push_act_done<A: Allocator>(
     text.extend_from_slice(b"\n")
 }
 
-// Adds the line of a new waiter, or a new subscription: its word, its serial, and what it is about (`body`).
+// Adds the line of a new waiter, or a new subscription: its word, its serial, and what it is about
+// (`body`).
 fn push_made<A: Allocator>(
     text: &mut Vec<u8, A>,
     now: At,
@@ -98,7 +102,8 @@ fn push_made<A: Allocator>(
     text.extend_from_slice(b"\n")
 }
 
-// Adds a line for each service that a scan dropped. They are named by these rows, which are those before the scan.
+// Adds a line for each service that a scan dropped. They are named by these rows, which are those
+// before the scan.
 fn push_all_dropped<A: Allocator>(
     text: &mut Vec<u8, A>,
     now: At,
@@ -114,7 +119,8 @@ fn push_all_dropped<A: Allocator>(
     Ok(())
 }
 
-// Adds a line that begins, behind its moment, with a name. `words` are the rest of it, with its newline.
+// Adds a line that begins, behind its moment, with a name. `words` are the rest of it, with its
+// newline.
 fn push_name_line<A: Allocator>(
     text: &mut Vec<u8, A>,
     now: At,
@@ -159,8 +165,9 @@ fn push_all_listed<A: Allocator>(
     Ok(())
 }
 
-/// Adds the lines of a reply to an act: `head` is what the act is, `body` what it is about, and `told` whether it has a line of its own once it is
-/// done. Services that were dropped are named by these rows. An error where memory is refused.
+/// Adds the lines of a reply to an act: `head` is what the act is, `body` what it is about, and
+/// `told` whether it has a line of its own once it is done. Services that were dropped are named by
+/// these rows. An error where memory is refused.
 pub fn push_reply_lines<A: Allocator>(
     text: &mut Vec<u8, A>,
     now: At,

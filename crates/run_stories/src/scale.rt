@@ -25,7 +25,8 @@ impl Scale {
         self.last.millis().saturating_sub(self.first.millis())
     }
 
-    /// The place of a moment on the width of the lanes, in tenths of a pixel: `WIDTH` of them stand for all moments of the scale.
+    /// The place of a moment on the width of the lanes, in tenths of a pixel: `WIDTH` of them stand
+    /// for all moments of the scale.
     pub fn place(&self, at: At) -> u64
         ensures { result ≡ place_of self.now at }
     {
@@ -33,8 +34,8 @@ impl Scale {
         (past * WIDTH / self.whole().max(1)).min(WIDTH)
     }
 
-    /// How many milliseconds the marks of the axis are apart: one, two or five times a power of ten, so that no more than `MARKS` are
-    /// needed.
+    /// How many milliseconds the marks of the axis are apart: one, two or five times a power of
+    /// ten, so that no more than `MARKS` are needed.
     pub fn mark_step(&self) -> u64
         ensures { 0 < result }
     {
@@ -56,8 +57,8 @@ impl Scale {
         }
     }
 
-    /// The first moment that is marked, in milliseconds, where marks are `step` milliseconds apart: the first multiple of that from where the scale
-    /// begins.
+    /// The first moment that is marked, in milliseconds, where marks are `step` milliseconds apart:
+    /// the first multiple of that from where the scale begins.
     pub fn first_mark(&self, step: u64) -> u64 {
         let first = self.first.millis();
         first.checked_next_multiple_of(step).unwrap_or(first)

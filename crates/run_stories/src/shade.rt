@@ -1,6 +1,7 @@
-//! The shade of a lane: what it shows of a service at a moment, by the marks of the service (its standing) and by its status row.
+//! The shade of a lane: what it shows of a service at a moment, by the marks of the service (its
+//! supervision) and by its status row.
 ghost use Rattle.std.specs.Prelude.{◌≡◌};
-ghost use Rattle.run_stories.specs.Lanes.{standing_after, done_shade, row_shade, shade_of};
+ghost use Rattle.run_stories.specs.Lanes.{supervision_after, done_shade, row_shade, shade_of};
 
 use s6_events::Mark;
 use supervise_core::Row;
@@ -16,7 +17,8 @@ pub enum Shade {
     Ready,
     /// It has died, and its `finish` isn't done.
     Finishing,
-    /// It is down and wanted up: it pauses before its next start, or its first start has not come yet.
+    /// It is down and wanted up: it pauses before its next start, or its first start has not come
+    /// yet.
     Pausing,
     /// It is down, and stays down.
     Down,
@@ -26,7 +28,7 @@ pub enum Shade {
 
 /// What the marks of a service say about it and its status row doesn't.
 #[derive(Clone, Copy)]
-pub enum Standing {
+pub enum Supervision {
     /// Its supervisor is there.
     Supervised,
     /// Its supervisor is there, and it failed for good since it was last up.
@@ -35,50 +37,53 @@ pub enum Standing {
     Gone,
 }
 
-/// What the marks of a service say of it (its standing) after one more mark: whether its supervisor is there, and whether it failed for good.
-pub fn standing_after(standing: Standing, mark: Mark) -> Standing
-    ensures { result ≡ standing_after standing mark }
+/// What the marks of a service say of it (its supervision) after one more mark: whether its
+/// supervisor is there, and whether it failed for good.
+pub fn supervision_after(supervision: Supervision, mark: Mark) -> Supervision
+    ensures { result ≡ supervision_after supervision mark }
 {
     match mark {
-        Mark::SupervisorStarted | Mark::Spawned => Standing::Supervised,
-        Mark::PermanentFailure => Standing::Failed,
-        Mark::SupervisorEnded => Standing::Gone,
-        Mark::Ready | Mark::Died | Mark::FinishDone => standing,
+        Mark::SupervisorStarted | Mark::Spawned => Supervision::Supervised,
+        Mark::PermanentFailure => Supervision::Failed,
+        Mark::SupervisorEnded => Supervision::Gone,
+        Mark::Ready | Mark::Died | Mark::FinishDone => supervision,
     }
 }
 
-// The shade of a service that is down with its `finish` done: where it is wanted up it pauses before its next start, else it stays down.
-fn done_shade(standing: Standing, wanted_up: bool) -> Shade
-    ensures { result ≡ done_shade wanted_up standing }
+// The shade of a service that is down with its `finish` done: where it is wanted up it pauses
+// before its next start, else it stays down.
+fn done_shade(supervision: Supervision, wanted_up: bool) -> Shade
+    ensures { result ≡ done_shade wanted_up supervision }
 {
     if wanted_up {
         return Shade::Pausing;
     }
-    match standing {
-        Standing::Failed => Shade::Failed,
-        Standing::Supervised | Standing::Gone => Shade::Down,
+    match supervision {
+        Supervision::Failed => Shade::Failed,
+        Supervision::Supervised | Supervision::Gone => Shade::Down,
     }
 }
 
-// The shade of a service whose supervisor is there. A row that is neither up nor ready is that of a service whose `finish` isn't done.
-fn row_shade(standing: Standing, row: &Row) -> Shade
-    ensures { result ≡ row_shade row.now.up row.now.ready row.now.wanted_up standing }
+// The shade of a service whose supervisor is there. A row that is neither up nor ready is that of a
+// service whose `finish` isn't done.
+fn row_shade(supervision: Supervision, row: &Row) -> Shade
+    ensures { result ≡ row_shade row.now.up row.now.ready row.now.wanted_up supervision }
 {
     if row.up {
         if row.ready { Shade::Ready } else { Shade::Up }
     } else if !row.ready {
         Shade::Finishing
     } else {
-        done_shade(standing, row.wanted_up)
+        done_shade(supervision, row.wanted_up)
     }
 }
 
-/// The shade of a service of this standing and this status row.
-pub fn shade_of(standing: Standing, row: &Row) -> Shade
-    ensures { result ≡ shade_of standing row.now }
+/// The shade of a service of this supervision and this status row.
+pub fn shade_of(supervision: Supervision, row: &Row) -> Shade
+    ensures { result ≡ shade_of supervision row.now }
 {
-    match standing {
-        Standing::Gone => Shade::Absent,
-        Standing::Supervised | Standing::Failed => row_shade(standing, row),
+    match supervision {
+        Supervision::Gone => Shade::Absent,
+        Supervision::Supervised | Supervision::Failed => row_shade(supervision, row),
     }
 }

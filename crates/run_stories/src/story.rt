@@ -1,4 +1,5 @@
-//! The story of a script: a line for each event. The script is replayed step by step, and a teller makes the lines of each step.
+//! The story of a script: a line for each event. The script is replayed step by step, and a teller
+//! makes the lines of each step.
 ghost use Rattle.std.specs.Prelude.{◌≡◌, ◌<◌, ◌++◌, [], OnOk, IfOk, IfErr};
 ghost use Rattle.std.specs.Io.KnownBytes.{Appends};
 ghost use Rattle.tree_core.specs.Effect.{outcome_of};
@@ -26,8 +27,8 @@ use std::io::{BufRead, Write};
 use supervise_core::Row;
 use tree_core::{Act, Effect, Reply, SERVICE_LIMIT, Tree};
 
-// The rows of the last scan, by which services are named, and memory that is used again for each step: what its act is about, and its
-// story, which is the text of the scratch.
+// The rows of the last scan, by which services are named, and memory that is used again for each
+// step: what its act is about, and its story, which is the text of the scratch.
 #[derive(Drop)]
 struct Teller<A: Allocator> {
     rows: ArrayVec<Row, SERVICE_LIMIT>,
@@ -36,7 +37,8 @@ struct Teller<A: Allocator> {
 }
 
 impl<A: Allocator + Copy> Teller<A> {
-    // A teller that has told no step: it has no rows by which to name services, and its memory is empty.
+    // A teller that has told no step: it has no rows by which to name services, and its memory is
+    // empty.
     fn new(alloc: A) -> Teller<A>
         ensures { result.rows.items ≡ [] }
     {
@@ -49,7 +51,8 @@ impl<A: Allocator + Copy> Teller<A> {
     }
 }
 
-/// Takes the rows of all services, if this is the reply to a scan that was done: services are named by the rows of the last scan.
+/// Takes the rows of all services, if this is the reply to a scan that was done: services are named
+/// by the rows of the last scan.
 pub fn follow_scan<A: Allocator + Copy>(
     rows: &mut ArrayVec<Row, SERVICE_LIMIT>,
     tree: &Tree<A>,
@@ -75,8 +78,9 @@ fn make_body<A: Allocator>(
     push_body(body, rows.as_slice(), act)
 }
 
-// Fills the text with the story of a step that the tree took. Of its act, `told` is whether it has a line of its own once it is done, `head`
-// what it is, `body` what it is about, and `cause` what it tells of a program.
+// Fills the text with the story of a step that the tree took. Of its act, `told` is whether it has
+// a line of its own once it is done, `head` what it is, `body` what it is about, and `cause` what
+// it tells of a program.
 fn make_story<A: Allocator + Copy>(
     tree: &Tree<A>,
     rows: &mut ArrayVec<Row, SERVICE_LIMIT>,
@@ -96,7 +100,8 @@ fn make_story<A: Allocator + Copy>(
 {
     let now = tree.now();
     text.clear();
-    // Services that a scan dropped are named by the rows before it, and all others by those after it.
+    // Services that a scan dropped are named by the rows before it, and all others by those after
+    // it.
     push_reply_lines(
         text,
         now,
@@ -111,7 +116,8 @@ fn make_story<A: Allocator + Copy>(
     Ok(())
 }
 
-// Applies the input that was read to the tree, and fills the text of the scratch with the story of the step.
+// Applies the input that was read to the tree, and fills the text of the scratch with the story of
+// the step.
 fn tell_step<A: Allocator + Copy>(
     tree: &mut Tree<A>,
     teller: &mut Teller<A>,
@@ -164,8 +170,8 @@ fn write_story<A: Allocator, W: Write>(
     }
 }
 
-// Reads the step after `done` others, tells it, and writes its story. Returns whether there was one. Patterns take their memory from `patterns`,
-// and all else from `alloc`.
+// Reads the step after `done` others, tells it, and writes its story. Returns whether there was
+// one. Patterns take their memory from `patterns`, and all else from `alloc`.
 fn tell_next<A: Allocator + Copy, R: BufRead, W: Write>(
     alloc: A,
     patterns: Global,
@@ -200,8 +206,9 @@ fn tell_next<A: Allocator + Copy, R: BufRead, W: Write>(
     }
 }
 
-// Tells the story of a script on a tree that has taken no step. After as many inputs as a script may have, its end must follow. Patterns take their
-// memory from `patterns`, and all else from `alloc`.
+// Tells the story of a script on a tree that has taken no step. After as many inputs as a script
+// may have, its end must follow. Patterns take their memory from `patterns`, and all else from
+// `alloc`.
 fn tell_all<A: Allocator + Copy, R: BufRead, W: Write>(
     alloc: A,
     patterns: Global,
@@ -235,13 +242,15 @@ fn tell_all<A: Allocator + Copy, R: BufRead, W: Write>(
     }
 }
 
-/// Reads a script of either version, hands its inputs to a new tree one after the other, and writes what happens, a line for each event, as
-/// docs/STORY.md says. Replies in the script are read and not compared. Hand in a buffered reader and a buffered writer; the writer is not
-/// flushed here. Patterns take their memory from `patterns`, and all else from `alloc`.
+/// Reads a script of either version, hands its inputs to a new tree one after the other, and writes
+/// what happens, a line for each event, as docs/STORY.md says. Replies in the script are read and
+/// not compared. Hand in a buffered reader and a buffered writer; the writer is not flushed here.
+/// Patterns take their memory from `patterns`, and all else from `alloc`.
 ///
-/// The limits and the faults are those of `s6_replay::run`. At `Line`, `Pattern`, `Truncated`, `Read` and `NoMemory` the story of all steps
-/// before was written, and nothing more. At `Write` a part of the story of the steps that were read was written, from its beginning on, and
-/// not all. At `Head` nothing was written.
+/// The limits and the faults are those of `s6_replay::run`. At `Line`, `Pattern`, `Truncated`,
+/// `Read` and `NoMemory` the story of all steps before was written, and nothing more. At `Write` a
+/// part of the story of the steps that were read was written, from its beginning on, and not all.
+/// At `Head` nothing was written.
 pub fn tell_story<A: Allocator + Copy, R: BufRead, W: Write>(
     alloc: A,
     patterns: Global,

@@ -1,5 +1,5 @@
-//! The timeline of a script: a lane for each service name. The script is replayed step by step, while a watcher notes what the lanes show; then
-//! the picture is drawn.
+//! The timeline of a script: a lane for each service name. The script is replayed step by step,
+//! while a watcher notes what the lanes show; then the picture is drawn.
 ghost use Rattle.std.specs.Prelude.{◌<◌};
 ghost use Rattle.s6_replay.specs.Script.{input_limit};
 
@@ -16,20 +16,21 @@ use std::io::{BufRead, Write};
 use supervise_core::Row;
 use tree_core::{Act, SERVICE_LIMIT, Tree};
 
-// What was seen of a run so far: its lanes, the moment of its first step, and the rows of its last scan, by which services are named. And
-// memory that is used again for each step.
+// What was seen of a run so far: its lanes, the moment of its first step, and the rows of its last
+// scan, by which services are named. And memory that is used again for each step.
 #[derive(Drop)]
-struct Watcher<A: Allocator> {
+struct SeenRun<A: Allocator> {
     lanes: TimelineLanes<A>,
     first: Option<At>,
     rows: ArrayVec<Row, SERVICE_LIMIT>,
     scratch: Scratch<A>,
 }
 
-impl<A: Allocator + Copy> Watcher<A> {
-    // A watcher that has seen no step: it has no lanes, no rows by which to name services, and its memory is empty.
-    fn new(alloc: A) -> Watcher<A> {
-        Watcher {
+impl<A: Allocator + Copy> SeenRun<A> {
+    // A watcher that has seen no step: it has no lanes, no rows by which to name services, and its
+    // memory is empty.
+    fn new(alloc: A) -> SeenRun<A> {
+        SeenRun {
             lanes: TimelineLanes::new(alloc),
             // The moment of the first step.
             first: None,
@@ -52,16 +53,17 @@ fn lettered<A: Allocator>(act: &Act<A>) -> Option<Name> {
 fn watch_step<A: Allocator + Copy>(
     alloc: A,
     tree: &mut Tree<A>,
-    watcher: &mut Watcher<A>,
+    watcher: &mut SeenRun<A>,
 ) -> Result<(), ReplayFault> {
-    let Watcher {
+    let SeenRun {
         lanes,
         first,
         rows,
         scratch,
     } = watcher;
     let Scratch { input, effect, .. } = scratch;
-    // Letters may change what a lane shows without an event; the act is read before the step, which takes it.
+    // Letters may change what a lane shows without an event; the act is read before the step, which
+    // takes it.
     let named = lettered(&input.act);
     let Ok(()) = tree.apply_in_place(input, effect) else {
         return Err(ReplayFault::NoMemory);
@@ -77,14 +79,14 @@ fn watch_step<A: Allocator + Copy>(
     }
 }
 
-// Reads the step after `done` others, and watches it: the lanes take in what it changed. Returns whether there was one. Patterns take their memory
-// from `patterns`, and all else from `alloc`.
+// Reads the step after `done` others, and watches it: the lanes take in what it changed. Returns
+// whether there was one. Patterns take their memory from `patterns`, and all else from `alloc`.
 fn watch_next<A: Allocator + Copy, R: BufRead>(
     alloc: A,
     patterns: Global,
     reader: &mut R,
     tree: &mut Tree<A>,
-    watcher: &mut Watcher<A>,
+    watcher: &mut SeenRun<A>,
     version: Version,
     done: u64,
 ) -> Result<bool, ReplayFault>
@@ -99,14 +101,15 @@ fn watch_next<A: Allocator + Copy, R: BufRead>(
     Ok(true)
 }
 
-// Watches the whole of a script on a tree that has taken no step. After as many inputs as a script may have, its end must follow. Patterns take
-// their memory from `patterns`, and all else from `alloc`.
+// Watches the whole of a script on a tree that has taken no step. After as many inputs as a script
+// may have, its end must follow. Patterns take their memory from `patterns`, and all else from
+// `alloc`.
 fn watch_all<A: Allocator + Copy, R: BufRead>(
     alloc: A,
     patterns: Global,
     reader: &mut R,
     tree: &mut Tree<A>,
-    watcher: &mut Watcher<A>,
+    watcher: &mut SeenRun<A>,
 ) -> Result<(), ReplayFault> {
     let version = read_head(reader)?;
     for done in 0..INPUT_LIMIT {
@@ -126,7 +129,8 @@ fn longest_name<A: Allocator>(lanes: &[TimelineLane<A>]) -> usize {
     longest
 }
 
-// Draws a lane, the one at this place from the top. `intervals` is memory for its parts, each of one shade.
+// Draws a lane, the one at this place from the top. `intervals` is memory for its parts, each of
+// one shade.
 fn draw_lane<A: Allocator, W: Write>(
     writer: &mut W,
     layout: Layout,
@@ -163,7 +167,7 @@ fn draw_lanes<A: Allocator + Copy, W: Write>(
 fn draw_all<A: Allocator + Copy, W: Write>(
     alloc: A,
     writer: &mut W,
-    watcher: &Watcher<A>,
+    watcher: &SeenRun<A>,
     last: At,
 ) -> Result<(), ReplayFault> {
     let lanes = watcher.lanes.lanes.as_slice();
@@ -183,27 +187,29 @@ fn draw_all<A: Allocator + Copy, W: Write>(
     }
 }
 
-// Watches a script on a tree that has taken no step, and draws what was seen. Patterns take their memory from `patterns`, and all else from
-// `alloc`.
+// Watches a script on a tree that has taken no step, and draws what was seen. Patterns take their
+// memory from `patterns`, and all else from `alloc`.
 fn draw_script<A: Allocator + Copy, R: BufRead, W: Write>(
     alloc: A,
     patterns: Global,
     reader: &mut R,
     writer: &mut W,
     tree: &mut Tree<A>,
-    watcher: &mut Watcher<A>,
+    watcher: &mut SeenRun<A>,
 ) -> Result<(), ReplayFault> {
     watch_all(alloc, patterns, reader, tree, watcher)?;
     draw_all(alloc, writer, watcher, tree.now())
 }
 
-/// Reads a script of either version, hands its inputs to a new tree one after the other, and writes a picture in SVG: a lane for each
-/// service name, which shows what the service was from when to when, as docs/STORY.md says. Replies in the script are read and not
-/// compared. Hand in a buffered reader and a buffered writer; the writer is not flushed here. Patterns take their memory from `patterns`,
-/// and all else from `alloc`: some 16 bytes for each change that a lane shows.
+/// Reads a script of either version, hands its inputs to a new tree one after the other, and writes
+/// a picture in SVG: a lane for each service name, which shows what the service was from when to
+/// when, as docs/STORY.md says. Replies in the script are read and not compared. Hand in a buffered
+/// reader and a buffered writer; the writer is not flushed here. Patterns take their memory from
+/// `patterns`, and all else from `alloc`: some 16 bytes for each change that a lane shows.
 ///
-/// The limits and the faults are those of `s6_replay::run`. The picture is written once the whole script was read. So nothing was written
-/// at a fault that comes before. At `Write`, and at `NoMemory` while it is written, a part of the picture was, from its beginning on.
+/// The limits and the faults are those of `s6_replay::run`. The picture is written once the whole
+/// script was read. So nothing was written at a fault that comes before. At `Write`, and at
+/// `NoMemory` while it is written, a part of the picture was, from its beginning on.
 pub fn draw_timeline<A: Allocator + Copy, R: BufRead, W: Write>(
     alloc: A,
     patterns: Global,
@@ -211,6 +217,6 @@ pub fn draw_timeline<A: Allocator + Copy, R: BufRead, W: Write>(
     writer: &mut W,
 ) -> Result<(), ReplayFault> {
     let mut tree = Tree::new(alloc);
-    let mut watcher = Watcher::new(alloc);
+    let mut watcher = SeenRun::new(alloc);
     draw_script(alloc, patterns, reader, writer, &mut tree, &mut watcher)
 }

@@ -7,7 +7,8 @@ use std::marker::Model;
 /// The greatest moment, in milliseconds.
 const LAST_MOMENT: u64 = 1_000_000_000_000_000;
 
-/// A moment in milliseconds, from 0 to 10^15. Moments and their limit are chosen here: s6 stamps with TAI64N labels.
+/// A moment in milliseconds, from 0 to 10^15. Moments and their limit are chosen here: s6 stamps
+/// with TAI64N labels.
 #[derive(Clone, Copy, PartialEq, Eq, PartialOrd, Ord, Hash, Debug, Default)]
 pub struct At {
     millis: u64,
@@ -53,8 +54,8 @@ impl At {
         self.millis
     }
 
-    /// The number of the moment that is `millis` milliseconds later. It is a plain number, since it may be past the greatest moment;
-    /// then that moment never comes.
+    /// The number of the moment that is `millis` milliseconds later. It is a plain number, since it
+    /// may be past the greatest moment; then that moment never comes.
     pub fn later(self, millis: u32) -> u64
         ensures { result ≡ self + millis }
     {

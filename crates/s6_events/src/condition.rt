@@ -1,5 +1,6 @@
 //! What a waiter waits for, and for how many of its services.
-/// What a waiter, as an `s6-svwait` makes one, waits for in each of its services. Pages `s6-svwait` and `s6-svlisten`.
+/// What a waiter, as an `s6-svwait` makes one, waits for in each of its services. Pages `s6-svwait`
+/// and `s6-svlisten`.
 #[derive(Clone, Copy, Debug, Default, PartialEq, Eq)]
 pub enum Condition {
     /// `u`: it is up.

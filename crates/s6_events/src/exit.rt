@@ -4,6 +4,7 @@
 pub enum Exit {
     /// It ended by itself, with this code.
     Code(u8),
-    /// A signal of this number killed it; 0 where the system did not tell the number (this project's own rule).
+    /// A signal of this number killed it; 0 where the system did not tell the number (this
+    /// project's own rule).
     Killed(u8),
 }

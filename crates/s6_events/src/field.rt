@@ -1,5 +1,6 @@
 //! The fields of a status row.
-/// A field of the status of a service. Page `s6-svstat`, option `-o`; the ten that are served are chosen here.
+/// A field of the status of a service. Page `s6-svstat`, option `-o`; the ten that are served are
+/// chosen here.
 #[derive(Clone, Copy, Debug, PartialEq, Eq)]
 pub enum Field {
     /// `up`: it is up.

@@ -1,4 +1,5 @@
-//! The history: all moments (clock readings, and marks of services) in order, of which the first ones may be forgotten.
+//! The history: all moments (clock readings, and marks of services) in order, of which the first
+//! ones may be forgotten.
 ghost use Rattle.std.specs.Prelude.{◌≡◌, ◌==◌, ◌+◌, ◌-◌, ◌^◌, ◌<◌, ◌≤◌, ◌++◌, ◌∷◌, [], length, drop, vec_len, vec_capacity, IsOk, IfOk, OnOk, OnErr, option_map};
 ghost use Rattle.s6_events.specs.History.{end_of, from_place, forgotten_by};
 
@@ -7,12 +8,14 @@ use crate::no_memory::NoMemory;
 use std::alloc::Allocator;
 use std::marker::Model;
 
-/// All moments that were pushed, in order; their places count from 0. The first ones may be forgotten; the others keep their places.
+/// All moments that were pushed, in order; their places count from 0. The first ones may be
+/// forgotten; the others keep their places.
 #[derive(Drop)]
 pub struct History<A: Allocator> {
     // How many of the first moments are no longer in `moments`.
     dropped: u64,
-    // How many of the first ones in `moments` are forgotten. They are dropped once they are at least half of `moments`.
+    // How many of the first ones in `moments` are forgotten. They are dropped once they are at
+    // least half of `moments`.
     skipped: usize,
     moments: Vec<Moment, A>,
     // The list of the plan that was committed last, kept so that the next step can use its memory.
@@ -53,16 +56,15 @@ impl<A: Allocator + Copy> History<A> {
         ensures kept { result.kept ≡ [] }
     {
         History {
-            // How many of the first moments are no longer in `moments`, and how many of those in it are forgotten.
             dropped: 0,
             skipped: 0,
             moments: Vec::new(alloc),
-            // The list of the plan that was committed last, whose memory the next step uses: none yet.
             spare: Vec::new(alloc),
         }
     }
 
-    /// How many moments were pushed: those that are forgotten and were dropped from the list `moments` are counted too.
+    /// How many moments were pushed: those that are forgotten and were dropped from the list
+    /// `moments` are counted too.
     pub fn len(&self) -> u64
         ensures value { result ≡ end_of self.now }
         ensures bound { result < 2 ^ 63 }
@@ -70,8 +72,8 @@ impl<A: Allocator + Copy> History<A> {
         self.dropped + self.moments.len() as u64
     }
 
-    // How many moments are forgotten, which is the place of the first one that is not. Of these, `dropped` have left the list `moments`, and
-    // `skipped` still stand at its front.
+    // How many moments are forgotten, which is the place of the first one that is not. Of these,
+    // `dropped` have left the list `moments`, and `skipped` still stand at its front.
     fn start(&self) -> u64
         ensures value { result ≡ self.now.forgotten }
         ensures bound { result ≤ end_of self.now }
@@ -86,8 +88,8 @@ impl<A: Allocator + Copy> History<A> {
         self.len() == 0
     }
 
-    /// Adds a moment at the end. It always succeeds where there is still room. `NoMemory` where memory is refused: nothing has changed
-    /// then, and a plan still has its room.
+    /// Adds a moment at the end. It always succeeds where there is still room. `NoMemory` where
+    /// memory is refused: nothing has changed then, and a plan still has its room.
     pub fn push(&mut self, moment: Moment) -> Result<(), NoMemory>
         requires { end_of self.old + 1 < 2 ^ 63 }
         ensures ok { OnOk result (self.new.kept ≡ self.old.kept ++ moment ∷ []) }
@@ -100,8 +102,8 @@ impl<A: Allocator + Copy> History<A> {
         Ok(())
     }
 
-    /// The moments from a place on, the empty slice at the place `len`. None where the place is past `len`, or where a moment from it on is
-    /// forgotten.
+    /// The moments from a place on, the empty slice at the place `len`. None where the place is
+    /// past `len`, or where a moment from it on is forgotten.
     pub fn from(&self, place: u64) -> Option<&[Moment]>
         ensures { option_map (λ s. s.now) result ≡ from_place self.now place }
     {
@@ -118,8 +120,9 @@ impl<A: Allocator + Copy> History<A> {
         Some(&kept[before..])
     }
 
-    /// Forgets the moments before `place`, or all of them where `place` is past the end. What is forgotten already stays forgotten. Forgotten
-    /// moments are first only counted (`skipped`), and dropped from the list once they are half of it.
+    /// Forgets the moments before `place`, or all of them where `place` is past the end. What is
+    /// forgotten already stays forgotten. Forgotten moments are first only counted (`skipped`), and
+    /// dropped from the list once they are half of it.
     pub fn forget(&mut self, place: u64)
         ensures forgotten { self.new.forgotten ≡ forgotten_by self.old place }
         ensures kept { self.new.kept
@@ -139,7 +142,8 @@ impl<A: Allocator + Copy> History<A> {
         }
     }
 
-    // Drops the forgotten moments, the first `skipped` of the list, from it. The others are turned to the front, and the end is cut off.
+    // Drops the forgotten moments, the first `skipped` of the list, from it. The others are turned
+    // to the front, and the end is cut off.
     fn drop_skipped(&mut self)
         ensures forgotten { self.new.forgotten ≡ self.old.forgotten }
         ensures kept { self.new.kept ≡ self.old.kept }
@@ -155,7 +159,8 @@ impl<A: Allocator + Copy> History<A> {
         self.skipped = 0;
     }
 
-    /// An empty list for the moments of the next step. It has the memory of the list that was committed last (`spare`).
+    /// An empty list for the moments of the next step. It has the memory of the list that was
+    /// committed last (`spare`).
     pub fn lend(&mut self) -> Vec<Moment, A>
         ensures none { result.items ≡ [] }
         ensures same { self.new ≡ self.old }
@@ -166,8 +171,9 @@ impl<A: Allocator + Copy> History<A> {
         list
     }
 
-    /// Makes room to push these moments, which the plan keeps, and changes nothing else: `commit` pushes them. An earlier plan keeps its room, even
-    /// where this call is refused. `NoMemory` where memory is refused; never where there is no moment to push.
+    /// Makes room to push these moments, which the plan keeps, and changes nothing else: `commit`
+    /// pushes them. An earlier plan keeps its room, even where this call is refused. `NoMemory`
+    /// where memory is refused; never where there is no moment to push.
     pub fn prepare(&mut self, moments: Vec<Moment, A>) -> Result<HistoryPlan<A>, NoMemory>
         ensures ok { IfOk result (λ plan. plan ≡ moments.items) }
         ensures room { OnOk result (length moments.items ≤ self.new.spare_capacity) }
@@ -180,7 +186,8 @@ impl<A: Allocator + Copy> History<A> {
         Ok(HistoryPlan { moments })
     }
 
-    /// Pushes the moments of a plan. It has to be a plan of this history, and no moment may have been pushed since it was made.
+    /// Pushes the moments of a plan. It has to be a plan of this history, and no moment may have
+    /// been pushed since it was made.
     pub fn commit(&mut self, plan: HistoryPlan<A>)
         requires room { length plan ≤ self.old.spare_capacity }
         requires count { end_of self.old + length plan < 2 ^ 63 }

@@ -1,9 +1,11 @@
-//! The serials of services, subscriptions and waiters, and the actors that give inputs; all of these are chosen here.
+//! The serials of services, subscriptions and waiters, and the actors that give inputs; all of
+//! these are chosen here.
 ghost use Rattle.std.specs.Prelude.{◌≡◌, ◌≤◌, None, Some, nat_le, if◌then◌else◌};
 
 use std::marker::Model;
 
-/// The serial of a service, counted from 1 and never used again: where a name comes again, it is another service with another serial.
+/// The serial of a service, counted from 1 and never used again: where a name comes again, it is
+/// another service with another serial.
 #[derive(Clone, Copy, PartialEq, Eq, PartialOrd, Ord, Hash, Debug, Default)]
 pub struct Sid(pub u64);
 
@@ -45,7 +47,8 @@ impl Model for WaitId {
     ghost inverse = { λ n. record { 0 = n } };
 }
 
-/// Who gives an input: one of 16 actors, with the numbers 0 to 15. What an input does never depends on it.
+/// Who gives an input: one of 16 actors, with the numbers 0 to 15. What an input does never depends
+/// on it.
 #[derive(Clone, Copy, PartialEq, Eq, PartialOrd, Ord, Hash, Debug, Default)]
 pub struct Actor {
     number: u8,

@@ -4,8 +4,8 @@ ghost use Rattle.s6_events.specs.Letter.{is_letter};
 
 use std::marker::Model;
 
-/// A letter of an event directory: a byte from 0x21 to 0x7e. Page `fifodir`; that an event is one printable byte is this
-/// project's own rule.
+/// A letter of an event directory: a byte from 0x21 to 0x7e. Page `fifodir`; that an event is one
+/// printable byte is this project's own rule.
 #[derive(Clone, Copy, PartialEq, Eq, PartialOrd, Ord, Hash, Debug)]
 pub struct Letter {
     byte: u8,

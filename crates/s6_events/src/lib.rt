@@ -1,4 +1,5 @@
-//! What every layer speaks of: names, serials, moments, marks, letters, orders, reports, and the history.
+//! What every layer speaks of: names, serials, moments, marks, letters, orders, reports, and the
+//! history.
 #![tactic(auto)]
 
 mod at;

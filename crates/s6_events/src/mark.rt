@@ -4,7 +4,8 @@ ghost use Rattle.s6_events.specs.Mark.{letter_of};
 
 use super::letter::Letter;
 
-/// A mark: an event of a service, which its supervisor sends to the event directory of that service. Page `s6-supervise`, "Events".
+/// A mark: an event of a service, which its supervisor sends to the event directory of that
+/// service. Page `s6-supervise`, "Events".
 #[derive(Clone, Copy, Debug, Default, PartialEq, Eq)]
 pub enum Mark {
     /// `s`: the supervisor started.

@@ -16,9 +16,9 @@ use std::marker::Model;
 /// The most bytes of a name.
 const NAME_LIMIT: usize = 64;
 
-/// The name of a service or of a free event directory: 1 to 64 bytes of `A-Z a-z 0-9 . _ - @`, the first of them no dot.
-/// Names are compared and ordered by their bytes. The alphabet and the length are chosen here; page `s6-svscan`
-/// says that a name with a dot in front is not scanned.
+/// The name of a service or of a free event directory: 1 to 64 bytes of `A-Z a-z 0-9 . _ - @`, the
+/// first of them no dot. Names are compared and ordered by their bytes. The alphabet and the length
+/// are chosen here; page `s6-svscan` says that a name with a dot in front is not scanned.
 #[derive(Clone, Copy, Debug)]
 pub struct Name {
     bytes: [u8; 64],
@@ -41,7 +41,8 @@ impl Model for Name {
 }
 
 impl Name {
-    /// The name with these bytes; None where they are no name. They are copied to the front of a field of 64 bytes, and the rest of it stays 0.
+    /// The name with these bytes; None where they are no name. They are copied to the front of a
+    /// field of 64 bytes, and the rest of it stays 0.
     pub fn new(text: &[u8]) -> Option<Name>
         ensures { result ≡ (if is_name text.now then Some text.now else None) }
     {

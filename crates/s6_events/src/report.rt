@@ -3,8 +3,9 @@ use crate::exit::Exit;
 use crate::ids::Sid;
 use arrayvec::ArrayVec;
 
-/// What became of a `run` or a `finish` whose start was ordered. The first field is the serial of the service, the second the generation
-/// that the order had. Page `s6-supervise`, "Detailed operation".
+/// What became of a `run` or a `finish` whose start was ordered. The first field is the serial of
+/// the service, the second the generation that the order had. Page `s6-supervise`, "Detailed
+/// operation".
 #[derive(Clone, Debug, PartialEq, Eq, Drop)]
 pub enum Report {
     /// `run` was spawned, with this process number.

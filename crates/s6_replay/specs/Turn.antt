@@ -15,8 +15,8 @@ use Rattle.s6_replay.specs.ReadingStops.{input_line_number}
 use Rattle.s6_replay.specs.Transcript.{block}
 use Rattle.s6_replay.specs.declared.version.Version.{Version}
 use Rattle.s6_replay.specs.declared.version.Version.TheVariants.{One, Two}
-use Rattle.s6_replay.specs.declared.line.ReadFault.{ReadFault}
-use Rattle.s6_replay.specs.declared.line.ReadFault.TheVariants as reads
+use Rattle.s6_replay.specs.declared.line.LineReadFault.{LineReadFault}
+use Rattle.s6_replay.specs.declared.line.LineReadFault.TheVariants as reads
 use Rattle.s6_replay.specs.declared.turn.Turn.{Turn}
 use Rattle.s6_replay.specs.declared.turn.Turn.TheVariants.{Done, End}
 use Rattle.s6_replay.specs.declared.fault.ReplayFault.{ReplayFault}
@@ -63,7 +63,7 @@ HoldsReply line true = (line ≡ codes "= " ++ text_in line) × (text_in line �
 HoldsReply line false = (text : List ℕ) → text ≢ [] → All IsPrintable text → line ≡ codes "= " ++ text → ⊥
 
 -- the fault of a replay for a failed read
-abbrev pub fault_of : ReadFault → ReplayFault
+abbrev pub fault_of : LineReadFault → ReplayFault
 fault_of reads.Read = Read
 fault_of reads.NoMemory = NoMemory
 

@@ -1,4 +1,5 @@
-//! The block of a step, which is its part of a transcript (what the machine answered, a line each): how its text is made, and written whole.
+//! The block of a step, which is its part of a transcript (what the machine answered, a line each):
+//! how its text is made, and written whole.
 ghost use Rattle.std.specs.Prelude.{◌≡◌, Err, IfErr, OnOk};
 ghost use Rattle.std.specs.Io.KnownBytes.{Appends};
 ghost use Rattle.s6_replay.specs.Lines.{AppendsFront};
@@ -16,8 +17,8 @@ use tree_core::Effect;
 /// Why the block of a step was not written whole.
 #[derive(Clone, Copy, Debug, PartialEq, Eq, Error)]
 pub enum WriteFault {
-    /// The writer answered an error, or took no byte. Of the block nothing was written, or a part from its beginning on, which may end
-    /// within a line, but never all.
+    /// The writer answered an error, or took no byte. Of the block nothing was written, or a part
+    /// from its beginning on, which may end within a line, but never all.
     #[error("the transcript was not written")]
     Write = 1,
     /// Memory was refused. Nothing was written.
@@ -35,7 +36,8 @@ impl From<AllocError> for WriteFault {
     }
 }
 
-// Fills the text with the block of a step: a line with its number and its reply, then one for each event, order, match and release.
+// Fills the text with the block of a step: a line with its number and its reply, then one for each
+// event, order, match and release.
 fn make_block<A: Allocator>(
     number: u64,
     effect: &Effect<A>,
@@ -54,8 +56,8 @@ fn make_block<A: Allocator>(
     push_releases(text, effect.released.as_slice())
 }
 
-/// Writes all of the bytes. The only fault is `Write`: then some of them, or none, were written, from the front on, and not all. The writer
-/// is not flushed.
+/// Writes all of the bytes. The only fault is `Write`: then some of them, or none, were written,
+/// from the front on, and not all. The writer is not flushed.
 pub fn write_whole<W: Write>(writer: &mut W, bytes: &[u8]) -> Result<(), WriteFault>
     ensures ok { OnOk result (Appends (W.contents writer.old) (W.contents writer.new) bytes.now) }
     ensures write { IfErr result (λ fault. (fault ≡ WriteFault.Write)
@@ -72,9 +74,10 @@ pub fn write_whole<W: Write>(writer: &mut W, bytes: &[u8]) -> Result<(), WriteFa
     Ok(())
 }
 
-/// Writes the block of a step: a line with this number and the reply, then one for each event, order, match and release. The block is made
-/// whole in memory first, so at `NoMemory` nothing of it was written. At `Write` a part of it was, from its beginning on, which may end
-/// within a line. The writer is not flushed.
+/// Writes the block of a step: a line with this number and the reply, then one for each event,
+/// order, match and release. The block is made whole in memory first, so at `NoMemory` nothing of
+/// it was written. At `Write` a part of it was, from its beginning on, which may end within a line.
+/// The writer is not flushed.
 pub fn write_effect<A: Allocator + Copy, W: Write>(
     alloc: A,
     number: u64,

@@ -1,4 +1,5 @@
-//! Checking the replies of a recorded script: each input is handed to a new tree, and its reply compared with the line in the script.
+//! Checking the replies of a recorded script: each input is handed to a new tree, and its reply
+//! compared with the line in the script.
 ghost use Rattle.std.specs.Prelude.{◌≡◌, ◌<◌, [], IfOk, IfErr};
 ghost use Rattle.tree_core.specs.Machine.{new_machine};
 ghost use Rattle.tree_core.specs.StandsFor.{StandsFor};
@@ -37,8 +38,8 @@ fn text_of(line: &[u8]) -> &[u8]
     &line[line.len().min(2)..]
 }
 
-// Applies an input to the tree. Returns whether the reply in this line of the script is the one that the tree gives. `text` is memory for the text
-// of the tree's reply.
+// Applies an input to the tree. Returns whether the reply in this line of the script is the one
+// that the tree gives. `text` is memory for the text of the tree's reply.
 fn compare_reply<A: Allocator + Copy>(
     tree: &mut Tree<A>,
     effect: &mut Effect<A>,
@@ -60,8 +61,9 @@ fn compare_reply<A: Allocator + Copy>(
     Ok(text_of(line) == text.as_slice())
 }
 
-// Reads the step after `done` others, applies its input to the tree, and compares its reply with the recorded one. The scratch has memory that each
-// step uses again, with the lines and the input that were read. Patterns take their memory from `patterns`, and all else from `alloc`.
+// Reads the step after `done` others, applies its input to the tree, and compares its reply with
+// the recorded one. The scratch has memory that each step uses again, with the lines and the input
+// that were read. Patterns take their memory from `patterns`, and all else from `alloc`.
 fn compare_step<A: Allocator + Copy, R: BufRead>(
     alloc: A,
     patterns: Global,
@@ -94,8 +96,8 @@ fn compare_step<A: Allocator + Copy, R: BufRead>(
     }
 }
 
-// Checks a script on a tree that has taken no step. After as many inputs as a script may have, its end must follow. Patterns take their memory from
-// `patterns`, and all else from `alloc`.
+// Checks a script on a tree that has taken no step. After as many inputs as a script may have, its
+// end must follow. Patterns take their memory from `patterns`, and all else from `alloc`.
 fn check_all<A: Allocator + Copy, R: BufRead>(
     alloc: A,
     patterns: Global,
@@ -130,12 +132,13 @@ fn check_all<A: Allocator + Copy, R: BufRead>(
     }
 }
 
-/// Reads a script of version 2, hands its inputs to a new tree one after the other, and compares each reply with the recorded one. `Legal`
-/// where all recorded replies are the machine's; `Differs` at the first that is not, and nothing after that line is read. Hand in a
-/// buffered reader. Patterns take their memory from `patterns`, and all else from `alloc`.
+/// Reads a script of version 2, hands its inputs to a new tree one after the other, and compares
+/// each reply with the recorded one. `Legal` where all recorded replies are the machine's;
+/// `Differs` at the first that is not, and nothing after that line is read. Hand in a buffered
+/// reader. Patterns take their memory from `patterns`, and all else from `alloc`.
 ///
-/// The limits and the faults are those of `run`; a script of version 1 gives `Head`. Where there is a fault, all replies before it are the
-/// machine's.
+/// The limits and the faults are those of `run`; a script of version 1 gives `Head`. Where there is
+/// a fault, all replies before it are the machine's.
 pub fn check<A: Allocator + Copy, R: BufRead>(
     alloc: A,
     patterns: Global,

@@ -1,8 +1,9 @@
 //! What a replay counts: inputs read, and the lines of events and orders that it wrote.
 ghost use Rattle.std.specs.Prelude.{◌≡◌, ◌+◌, ◌<◌, ◌^◌};
 
-/// How much a replay read and wrote: the inputs of the script, at most 1,000,000, and the `e` and `o` lines of its transcript. The sums
-/// of lines have 128 bits, since one step may give as many events as a list can hold.
+/// How much a replay read and wrote: the inputs of the script, at most 1,000,000, and the `e` and
+/// `o` lines of its transcript. The sums of lines have 128 bits, since one step may give as many
+/// events as a list can hold.
 #[derive(Clone, Copy, Debug, PartialEq, Eq)]
 pub struct Counts {
     pub inputs: u64,

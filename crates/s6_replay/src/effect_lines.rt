@@ -8,7 +8,8 @@ use s6_script::{push_number, push_spaced};
 use std::alloc::{AllocError, Allocator};
 use tree_core::{Event, Hit, Match, Release, Verdict};
 
-// Adds the line of an event, with its newline: `e`, the serial of its service, and the letter of its mark.
+// Adds the line of an event, with its newline: `e`, the serial of its service, and the letter of
+// its mark.
 fn push_event<A: Allocator>(text: &mut Vec<u8, A>, event: &Event) -> Result<(), AllocError>
     ensures { OnOk result (text.new.items ≡ text.old.items ++ event_line event.now) }
 {
@@ -27,7 +28,8 @@ pub fn push_events<A: Allocator>(text: &mut Vec<u8, A>, events: &[Event]) -> Res
     Ok(())
 }
 
-// Adds to the text the beginning of an order's line: `o`, the order's word, the serial of its service, and its generation (the number of the run).
+// Adds to the text the beginning of an order's line: `o`, the order's word, the serial of its
+// service, and its generation (the number of the run).
 fn push_run<A: Allocator>(
     text: &mut Vec<u8, A>,
     word: &str,
@@ -44,8 +46,8 @@ fn push_run<A: Allocator>(
     push_spaced(text, generation)
 }
 
-// Adds to the text the line of an order, but for its newline: the words that all orders have, then a descriptor, the arguments of `finish`, or a
-// signal.
+// Adds to the text the line of an order, but for its newline: the words that all orders have, then
+// a descriptor, the arguments of `finish`, or a signal.
 fn push_order<A: Allocator>(text: &mut Vec<u8, A>, order: &Order) -> Result<(), AllocError>
     ensures { OnOk result (text.new.items ++ 10 ∷ [] ≡ text.old.items ++ order_line order.now) }
 {
@@ -83,7 +85,8 @@ pub fn push_orders<A: Allocator>(text: &mut Vec<u8, A>, orders: &[Order]) -> Res
     Ok(())
 }
 
-// Adds the end of a match's line: the letter at which a text matched, or that the text grew too long.
+// Adds the end of a match's line: the letter at which a text matched, or that the text grew too
+// long.
 fn push_hit<A: Allocator>(text: &mut Vec<u8, A>, hit: Hit) -> Result<(), AllocError>
     ensures { OnOk result (text.new.items ≡ text.old.items ++ hit_text hit) }
 {
@@ -97,7 +100,8 @@ fn push_hit<A: Allocator>(text: &mut Vec<u8, A>, hit: Hit) -> Result<(), AllocEr
     }
 }
 
-/// Adds the line of a match, with its newline: `m`, the serial of the subscription, and the letter at which its text matched.
+/// Adds the line of a match, with its newline: `m`, the serial of the subscription, and the letter
+/// at which its text matched.
 pub fn push_match<A: Allocator>(text: &mut Vec<u8, A>, found: &Match) -> Result<(), AllocError>
     ensures { OnOk result (text.new.items ≡ text.old.items ++ match_line found.now) }
 {
@@ -132,7 +136,8 @@ fn verdict_bytes(verdict: Verdict) -> &'static str
     }
 }
 
-/// Adds the line of a release, with its newline: `r`, the serial of the waiter, and the word of its verdict (how its wait ended).
+/// Adds the line of a release, with its newline: `r`, the serial of the waiter, and the word of its
+/// verdict (how its wait ended).
 pub fn push_release<A: Allocator>(
     text: &mut Vec<u8, A>,
     release: &Release,

@@ -8,7 +8,8 @@ use super::fault::ReplayFault;
 use super::version::Version;
 use std::io::{BufRead, Read};
 
-// Reads just these bytes. `Head` where other bytes come, or the end of the input; `Read` where the reader answered an error.
+// Reads just these bytes. `Head` where other bytes come, or the end of the input; `Read` where the
+// reader answered an error.
 fn read_literal<R: BufRead>(reader: &mut R, text: &[u8]) -> Result<(), ReplayFault>
     ensures ok { OnOk result (Consumes (R.remaining reader.old) (R.remaining reader.new) text.now) }
     ensures fault { IfErr result
@@ -29,7 +30,8 @@ fn read_literal<R: BufRead>(reader: &mut R, text: &[u8]) -> Result<(), ReplayFau
     Ok(())
 }
 
-// Reads the digit of a version. `Head` where it is another byte, or the input ends; `Read` where the reader answered an error.
+// Reads the digit of a version. `Head` where it is another byte, or the input ends; `Read` where
+// the reader answered an error.
 fn read_version<R: BufRead>(reader: &mut R) -> Result<Version, ReplayFault>
     ensures ok { IfOk result (λ version. Consumes (R.remaining reader.old) (R.remaining reader.new)
         (version_digit version ∷ [])) }
@@ -49,8 +51,8 @@ fn read_version<R: BufRead>(reader: &mut R) -> Result<Version, ReplayFault>
     }
 }
 
-/// Reads the head line of a script, `s6-script 1` or `s6-script 2` with its newline, and returns the version. `Head` where the input begins
-/// otherwise, `Read` where the reader answered an error.
+/// Reads the head line of a script, `s6-script 1` or `s6-script 2` with its newline, and returns
+/// the version. `Head` where the input begins otherwise, `Read` where the reader answered an error.
 pub fn read_head<R: BufRead>(reader: &mut R) -> Result<Version, ReplayFault>
     ensures ok { IfOk result (λ version. Consumes (R.remaining reader.old) (R.remaining reader.new)
         (head_line version)) }

@@ -1,4 +1,5 @@
-//! The replay of scripts and its transcript, which is what the machine answers. The format is this program's own, not one of s6.
+//! The replay of scripts and its transcript, which is what the machine answers. The format is this
+//! program's own, not one of s6.
 #![tactic(auto)]
 
 mod block;

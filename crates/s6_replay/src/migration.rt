@@ -1,4 +1,5 @@
-//! Migration: makes a recorded script (version 2), in which a reply follows each input, from one of version 1, which has no replies.
+//! Migration: makes a recorded script (version 2), in which a reply follows each input, from one of
+//! version 1, which has no replies.
 ghost use Rattle.std.specs.Prelude.{◌≡◌, ◌<◌, ◌++◌, ◌∷◌, [], IfOk, IfErr, OnOk};
 ghost use Rattle.s6_script.specs.Spelling.{spelling};
 ghost use Rattle.tree_core.specs.Machine.{new_machine};
@@ -36,7 +37,8 @@ fn make_step<A: Allocator>(
     text.extend_from_slice(b"\n")
 }
 
-// Applies the input of this line to the tree, and writes the line and the reply. Returns how many events and orders it gave.
+// Applies the input of this line to the tree, and writes the line and the reply. Returns how many
+// events and orders it gave.
 fn record_input<A: Allocator + Copy, W: Write>(
     tree: &mut Tree<A>,
     effect: &mut Effect<A>,
@@ -70,8 +72,9 @@ fn record_input<A: Allocator + Copy, W: Write>(
     }
 }
 
-// Reads the input after `done` others, applies it to the tree, and writes its two lines. The scratch has memory that each step uses again. Patterns
-// take their memory from `patterns`, and all else from `alloc`.
+// Reads the input after `done` others, applies it to the tree, and writes its two lines. The
+// scratch has memory that each step uses again. Patterns take their memory from `patterns`, and all
+// else from `alloc`.
 fn record_step<A: Allocator + Copy, R: BufRead, W: Write>(
     alloc: A,
     patterns: Global,
@@ -118,8 +121,8 @@ fn write_head<W: Write>(writer: &mut W) -> Result<(), ReplayFault>
     }
 }
 
-// Migrates a script on a tree that has taken no step. After as many inputs as a script may have, its end must follow. Patterns take their memory
-// from `patterns`, and all else from `alloc`.
+// Migrates a script on a tree that has taken no step. After as many inputs as a script may have,
+// its end must follow. Patterns take their memory from `patterns`, and all else from `alloc`.
 fn migrate_all<A: Allocator + Copy, R: BufRead, W: Write>(
     alloc: A,
     patterns: Global,
@@ -159,13 +162,15 @@ fn migrate_all<A: Allocator + Copy, R: BufRead, W: Write>(
     }
 }
 
-/// Reads a script of version 1, hands its inputs to a new tree one after the other, and writes the script of version 2 of the same inputs
-/// with the replies of the tree. Hand in a buffered reader and a buffered writer; the writer is not flushed here. Patterns take their
-/// memory from `patterns`, and all else from `alloc`.
+/// Reads a script of version 1, hands its inputs to a new tree one after the other, and writes the
+/// script of version 2 of the same inputs with the replies of the tree. Hand in a buffered reader
+/// and a buffered writer; the writer is not flushed here. Patterns take their memory from
+/// `patterns`, and all else from `alloc`.
 ///
-/// The limits and the faults are those of `run`. A script of version 2 gives `Head`, and then nothing was written. At any later fault but
-/// `Write` the new script of the inputs before it was written. At `Write` a part of the new script was written, from its beginning on, and
-/// not all of it.
+/// The limits and the faults are those of `run`. A script of version 2 gives `Head`, and then
+/// nothing was written. At any later fault but `Write` the new script of the inputs before it was
+/// written. At `Write` a part of the new script was written, from its beginning on, and not all of
+/// it.
 pub fn migrate<A: Allocator + Copy, R: BufRead, W: Write>(
     alloc: A,
     patterns: Global,

@@ -1,4 +1,5 @@
-//! Reads the lines of a step (an input line, and in version 2 its reply line), and says which fault a line has, and which line it is.
+//! Reads the lines of a step (an input line, and in version 2 its reply line), and says which fault
+//! a line has, and which line it is.
 ghost use Rattle.std.specs.Prelude.{◌≡◌, ◌<◌, ◌≤◌, [], IfOk, IfErr, OnOk, IsTrue, Some, None, if◌then◌else◌};
 ghost use Rattle.std.specs.Io.KnownBytes.{Consumes, IsAtEnd};
 ghost use Rattle.s6_script.specs.Spelling.{spelling};
@@ -8,7 +9,7 @@ ghost use Rattle.s6_replay.specs.Turn.{InputWasRead, WasRead, ReplyStops, HoldsR
 
 use super::fault::ReplayFault;
 use super::limits::{INPUT_LIMIT, INPUT_LINE_LIMIT, REPLY_LINE_LIMIT};
-use super::line::{Ended, ReadFault, read_line};
+use super::line::{Ended, LineReadFault, read_line};
 use super::version::Version;
 use s6_events::{Actor, At};
 use s6_script::{LineFault, parse_into};
@@ -16,8 +17,9 @@ use std::alloc::{Allocator, Global};
 use std::io::{BufRead, Read};
 use tree_core::{Act, Effect, Input};
 
-/// Memory that is used again for each step: its lines, a text that is compared or written, its input, and the effect that the tree fills. A
-/// step that needs no more room in these than those before it takes no memory for them.
+/// Memory that is used again for each step: its lines, a text that is compared or written, its
+/// input, and the effect that the tree fills. A step that needs no more room in these than those
+/// before it takes no memory for them.
 #[derive(Drop)]
 pub struct Scratch<A: Allocator> {
     /// The input line that was read last, without its newline.
@@ -36,7 +38,6 @@ impl<A: Allocator + Copy> Scratch<A> {
     /// Memory in which no step was read yet. Until one is, its input is a tick.
     pub fn new(alloc: A) -> Scratch<A> {
         Scratch {
-            // The input line and the reply line that were read last, and a text that is compared or written.
             line: Vec::new(alloc),
             reply: Vec::new(alloc),
             text: Vec::new(alloc),
@@ -45,26 +46,26 @@ impl<A: Allocator + Copy> Scratch<A> {
                 at: At::zero(),
                 act: Act::Tick,
             },
-            // What the tree gave for the input that it took last.
             effect: Effect::new(alloc),
         }
     }
 }
 
-impl From<ReadFault> for ReplayFault {
+impl From<LineReadFault> for ReplayFault {
     ghost use Rattle.s6_replay.specs.Turn.{fault_of};
 
     ghost from_gives = { λ refused fault. fault ≡ fault_of refused };
 
-    fn from(refused: ReadFault) -> ReplayFault {
+    fn from(refused: LineReadFault) -> ReplayFault {
         match refused {
-            ReadFault::Read => ReplayFault::Read,
-            ReadFault::NoMemory => ReplayFault::NoMemory,
+            LineReadFault::Read => ReplayFault::Read,
+            LineReadFault::NoMemory => ReplayFault::NoMemory,
         }
     }
 }
 
-// The number of the input line after `done` steps. The head line is line 1; a step has one line in version 1, two in version 2.
+// The number of the input line after `done` steps. The head line is line 1; a step has one line in
+// version 1, two in version 2.
 pub fn input_line_number(version: Version, done: u64) -> u64
     requires { done ≤ input_limit }
     ensures { result ≡ input_line_number version done }
@@ -75,8 +76,9 @@ pub fn input_line_number(version: Version, done: u64) -> u64
     }
 }
 
-// Reads the input line after `done` steps into `line`, and the input that it spells into `input`; `text` is memory for that. Whether there was one:
-// not at the end of the script. Patterns take their memory from `patterns`, and all else from `alloc`.
+// Reads the input line after `done` steps into `line`, and the input that it spells into `input`;
+// `text` is memory for that. Whether there was one: not at the end of the script. Patterns take
+// their memory from `patterns`, and all else from `alloc`.
 fn read_input<A: Allocator + Copy, R: BufRead>(
     alloc: A,
     patterns: Global,
@@ -119,7 +121,8 @@ fn holds_reply(line: &[u8]) -> bool
     }
 }
 
-// Reads the reply line of the input after `done` steps. It is line `done * 2 + 3`, since the head line is line 1.
+// Reads the reply line of the input after `done` steps. It is line `done * 2 + 3`, since the head
+// line is line 1.
 fn read_reply<A: Allocator + Copy, R: BufRead>(
     reader: &mut R,
     line: &mut Vec<u8, A>,
@@ -144,8 +147,9 @@ fn read_reply<A: Allocator + Copy, R: BufRead>(
     }
 }
 
-/// Reads the lines of the step after `done` others, and puts its input into the scratch. Whether there was one: not at the end of the script. The
-/// limits and the faults are those of `run`. Patterns take their memory from `patterns`, and all else from `alloc`.
+/// Reads the lines of the step after `done` others, and puts its input into the scratch. Whether
+/// there was one: not at the end of the script. The limits and the faults are those of `run`.
+/// Patterns take their memory from `patterns`, and all else from `alloc`.
 pub fn read_step<A: Allocator + Copy, R: BufRead>(
     alloc: A,
     patterns: Global,
@@ -184,7 +188,8 @@ pub fn read_step<A: Allocator + Copy, R: BufRead>(
     }
 }
 
-/// Looks for the end of the input after 1,000,000 steps, as many as a script may have. `Line` where there is a further byte.
+/// Looks for the end of the input after 1,000,000 steps, as many as a script may have. `Line` where
+/// there is a further byte.
 pub fn read_end<R: BufRead>(reader: &mut R, version: Version) -> Result<(), ReplayFault>
     ensures ok { OnOk result (Consumes (R.remaining reader.old) (R.remaining reader.new) []
         × IsAtEnd (R.remaining reader.new)) }

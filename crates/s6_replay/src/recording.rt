@@ -19,7 +19,8 @@ use tree_core::{PlainInput, Reply};
 /// Why an input or a reply was not written whole.
 #[derive(Clone, Copy, Debug, PartialEq, Eq, Error)]
 pub enum SpellFault {
-    /// The writer answered an error, or took no byte. Some of the text, or none, was written, from its beginning on, and not all.
+    /// The writer answered an error, or took no byte. Some of the text, or none, was written, from
+    /// its beginning on, and not all.
     #[error("the record was not written")]
     Write = 1,
     /// Memory was refused. Nothing was written.
@@ -53,8 +54,9 @@ impl From<WriteFault> for SpellFault {
     }
 }
 
-/// Writes the spelling of an input, without a newline. `Unspelt` where it has none, or one that is too long for an input line. At `Unspelt`
-/// and at `NoMemory` nothing was written, at `Write` not all of it.
+/// Writes the spelling of an input, without a newline. `Unspelt` where it has none, or one that is
+/// too long for an input line. At `Unspelt` and at `NoMemory` nothing was written, at `Write` not
+/// all of it.
 pub fn write_input<A: Allocator + Copy, W: Write>(
     alloc: A,
     input: &PlainInput<A>,
@@ -82,8 +84,8 @@ pub fn write_input<A: Allocator + Copy, W: Write>(
     Ok(())
 }
 
-/// Writes the text of a reply, without a newline or what stands before it in a line. At `NoMemory` nothing was written, at `Write` not all of it.
-/// `Unspelt` never comes.
+/// Writes the text of a reply, without a newline or what stands before it in a line. At `NoMemory`
+/// nothing was written, at `Write` not all of it. `Unspelt` never comes.
 pub fn write_reply<A: Allocator + Copy, W: Write>(
     alloc: A,
     reply: &Reply<A>,
@@ -103,8 +105,9 @@ pub fn write_reply<A: Allocator + Copy, W: Write>(
     Ok(())
 }
 
-/// Fills the text with a step of a recorded script: the line of its input, and that of its reply. `Unspelt` where the input has no
-/// spelling, or one that is too long for an input line. `Write` never comes.
+/// Fills the text with a step of a recorded script: the line of its input, and that of its reply.
+/// `Unspelt` where the input has no spelling, or one that is too long for an input line. `Write`
+/// never comes.
 pub fn spell_step<A: Allocator + Copy>(
     alloc: A,
     text: &mut Vec<u8, A>,

@@ -1,4 +1,5 @@
-//! A replay: from a script (inputs, a line each) to its transcript (what the machine answers to each).
+//! A replay: from a script (inputs, a line each) to its transcript (what the machine answers to
+//! each).
 ghost use Rattle.std.specs.Prelude.{IfOk, IfErr};
 ghost use Rattle.tree_core.specs.Machine.{new_machine};
 ghost use Rattle.tree_core.specs.StandsFor.{StandsFor};
@@ -14,8 +15,9 @@ use std::alloc::{Allocator, Global};
 use std::io::{BufRead, Write};
 use tree_core::Tree;
 
-// Replays a script on a tree that has taken no step: a turn reads one input, applies it, and writes what it gave. After as many inputs as a script
-// may have, its end must follow. Patterns take their memory from `patterns`, and all else from `alloc`.
+// Replays a script on a tree that has taken no step: a turn reads one input, applies it, and writes
+// what it gave. After as many inputs as a script may have, its end must follow. Patterns take their
+// memory from `patterns`, and all else from `alloc`.
 fn replay_all<A: Allocator + Copy, R: BufRead, W: Write>(
     alloc: A,
     patterns: Global,
@@ -52,20 +54,26 @@ fn replay_all<A: Allocator + Copy, R: BufRead, W: Write>(
     }
 }
 
-/// Replays a script of either version: reads its inputs one after the other, hands them to a new tree, and writes what the tree answers.
-/// Replies in the script are read and not compared. The script is read through the reader's own buffer. The transcript is written a block
-/// at a time, so hand in a buffered writer; it is not flushed here. Patterns take their memory from `patterns`, and all else from `alloc`.
+/// Replays a script of either version: reads its inputs one after the other, hands them to a new
+/// tree, and writes what the tree answers. Replies in the script are read and not compared. The
+/// script is read through the reader's own buffer. The transcript is written a block at a time, so
+/// hand in a buffered writer; it is not flushed here. Patterns take their memory from `patterns`,
+/// and all else from `alloc`.
 ///
-/// An input line has at most 65,536 bytes with its newline, a reply line 262,144, and a script at most 1,000,000 input lines. A line beyond
-/// these limits is refused whatever it holds, and before its end is read. In version 2 an input is done once its reply line was read.
+/// An input line has at most 65,536 bytes with its newline, a reply line 262,144, and a script at
+/// most 1,000,000 input lines. A line beyond these limits is refused whatever it holds, and before
+/// its end is read. In version 2 an input is done once its reply line was read.
 ///
-/// `Head` where the input does not begin with a head line, however long the first line is; nothing was written. At `Line`, `Pattern`,
-/// `Truncated`, `Read` and `NoMemory` the transcript of all inputs before was written, and nothing more. After the lines of these inputs no
-/// more than a part of one line was read, which in version 2 may be a reply line behind a whole input line. At `Line` this part may be a
-/// whole line, or end one byte beyond the limit; at `NoMemory` it may be the whole line, and at `Pattern` it is: the line spells an input,
-/// but `regex` refuses its pattern, and not for want of memory. After 1,000,000 inputs, one byte was read at `Line`, and none at `Read`. At
-/// `Write` one more input was read, and after the transcript of the inputs before it some of its block, or none, was written, and never
-/// all.
+/// At a fault the transcript of all inputs before was written, and nothing more but at `Write`. Of
+/// what follows their lines no more was read than is said here; in version 2 that may be a reply
+/// line behind a whole input line.
+/// - `Head`: the input does not begin with a head line, however long the first line is.
+/// - `Line`: a line, or what ends one byte beyond the limit; after 1,000,000 inputs, one byte.
+/// - `Pattern`: a line that spells an input, but `regex` refuses its pattern, and not for want of
+///   memory.
+/// - `Truncated`, `Read`: a part of a line; at `Read` after 1,000,000 inputs, nothing.
+/// - `NoMemory`: a line, or a part of it.
+/// - `Write`: one more input. Some of its block, or none, was written, and never all.
 pub fn run<A: Allocator + Copy, R: BufRead, W: Write>(
     alloc: A,
     patterns: Global,

@@ -46,7 +46,8 @@ fn push_all_dropped<A: Allocator>(text: &mut Vec<u8, A>, sids: &[Sid]) -> Result
     Ok(())
 }
 
-// Adds, behind a space, what became of a name that a scan found: its new service, that there was no place, or that it couldn't be read.
+// Adds, behind a space, what became of a name that a scan found: its new service, that there was no
+// place, or that it couldn't be read.
 fn push_listed<A: Allocator>(text: &mut Vec<u8, A>, listed: &Listed) -> Result<(), AllocError>
     ensures { OnOk result (text.new.items ≡ text.old.items ++ listed_text listed.now) }
 {
@@ -187,7 +188,8 @@ fn push_end<A: Allocator>(text: &mut Vec<u8, A>, exit: Exit) -> Result<(), Alloc
     }
 }
 
-// Adds a death to the text, behind a space: its moment in milliseconds, a colon, and how the run ended.
+// Adds a death to the text, behind a space: its moment in milliseconds, a colon, and how the run
+// ended.
 fn push_death<A: Allocator>(text: &mut Vec<u8, A>, death: (At, Exit)) -> Result<(), AllocError>
     ensures { OnOk result (text.new.items ≡ text.old.items ++ death_text death) }
 {
@@ -207,7 +209,8 @@ fn push_deaths<A: Allocator>(text: &mut Vec<u8, A>, deaths: &[(At, Exit)]) -> Re
     Ok(())
 }
 
-// The text of the answer to a permafailon: 125 where the last deaths are a permanent failure, as s6-permafailon exits, else 0.
+// The text of the answer to a permafailon: 125 where the last deaths are a permanent failure, as
+// s6-permafailon exits, else 0.
 fn failure_bytes(fails: bool) -> &'static str
     ensures { result.now ≡ failure_text fails }
 {

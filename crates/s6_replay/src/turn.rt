@@ -1,4 +1,5 @@
-//! One turn of a replay: a step of the script is read and applied, and its block (its part of the transcript) is written.
+//! One turn of a replay: a step of the script is read and applied, and its block (its part of the
+//! transcript) is written.
 ghost use Rattle.std.specs.Prelude.{◌<◌, IfOk, IfErr};
 ghost use Rattle.s6_replay.specs.Script.{input_limit};
 ghost use Rattle.s6_replay.specs.Turn.{Turns, TurnStops};
@@ -20,8 +21,9 @@ pub enum Turn {
     End,
 }
 
-// Reads the step after `done` others, applies its input to the tree, and writes its block, whose number counts from 1. The scratch has memory that
-// each step uses again. Returns how many events and orders the input gave. Patterns take their memory from `patterns`, and all else from `alloc`.
+// Reads the step after `done` others, applies its input to the tree, and writes its block, whose
+// number counts from 1. The scratch has memory that each step uses again. Returns how many events
+// and orders the input gave. Patterns take their memory from `patterns`, and all else from `alloc`.
 pub fn take_turn<A: Allocator + Copy, R: BufRead, W: Write>(
     alloc: A,
     patterns: Global,

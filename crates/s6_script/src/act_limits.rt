@@ -1,4 +1,5 @@
-//! The limits within which an act has a spelling. Where a type keeps a limit by itself, the function that looks for it is there for the proof.
+//! The limits within which an act has a spelling. Where a type keeps a limit by itself, the
+//! function that looks for it is there for the proof.
 ghost use Rattle.std.specs.Prelude.{◌≡◌, ◌<◌, ◌≤◌, ◌^◌, All, IsTrue, IfSome, length, nat_le, ◌&&◌};
 ghost use Rattle.std.specs.List.{list_all};
 ghost use Rattle.hex.specs.Hex.{IsBytes};
@@ -33,8 +34,8 @@ fn is_exit(exit: Exit) -> bool
     }
 }
 
-// Whether a script can spell this item of a list of exits: a code, a range whose end is not below its beginning, or a signal from 1 to 31, which
-// have names.
+// Whether a script can spell this item of a list of exits: a code, a range whose end is not below
+// its beginning, or a signal from 1 to 31, which have names.
 fn is_item(item: &DeathItem) -> bool
     ensures { Tells result (IsItem item.now) }
 {
@@ -84,7 +85,8 @@ fn is_time(millis: u32) -> bool
     millis <= u32::MAX
 }
 
-// Whether a script can spell this configuration of a service: its descriptor, times, at most 4096 deaths, and a signal from 1 to 64.
+// Whether a script can spell this configuration of a service: its descriptor, times, at most 4096
+// deaths, and a signal from 1 to 64.
 fn is_config(config: &Config) -> bool
     ensures { Tells result (IsConfig config.now) }
 {
@@ -100,7 +102,8 @@ fn is_config(config: &Config) -> bool
     true
 }
 
-// Whether a name is valid; each `Name` is. The call of `as_bytes` is for the proof: it says of a name's bytes that they are valid.
+// Whether a name is valid; each `Name` is. The call of `as_bytes` is for the proof: it says of a
+// name's bytes that they are valid.
 fn is_named(name: &Name) -> bool
     ensures { Tells result (IsTrue (is_name name.now)) }
 {
@@ -127,7 +130,8 @@ fn is_number(number: u64) -> bool
     number <= u64::MAX
 }
 
-// Whether a script can spell this entry of a listing: its name, and the configuration of its service, if that was read.
+// Whether a script can spell this entry of a listing: its name, and the configuration of its
+// service, if that was read.
 fn is_entry(entry: &Entry) -> bool
     ensures { Tells result (IsEntry entry.now) }
 {
@@ -170,7 +174,8 @@ fn are_printable(text: &[u8]) -> bool
     text.iter().all(|b| 0x20 <= *b && *b <= 0x7e)
 }
 
-// Whether the serial and the generation by which a report names a start have 64 bits; both always have.
+// Whether the serial and the generation by which a report names a start have 64 bits; both always
+// have.
 fn has_start_numbers(sid: u64, generation: u64) -> bool
     ensures { Tells result ((sid < 2 ^ 64) × (generation < 2 ^ 64)) }
 {
@@ -194,7 +199,8 @@ fn is_target(target: &Target) -> bool
     }
 }
 
-// Whether an act is within the limits of a script. Where all of its parts are valid by their types, the call of a part's function is for the proof.
+// Whether an act is within the limits of a script. Where all of its parts are valid by their types,
+// the call of a part's function is for the proof.
 fn is_within<A: Allocator>(act: &PlainAct<A>) -> bool
     ensures { Tells result (IsAct (act_of act.now)) }
 {
@@ -237,7 +243,8 @@ fn is_within<A: Allocator>(act: &PlainAct<A>) -> bool
     }
 }
 
-// Whether a moment is valid; each `At` is. The call of `millis` is for the proof: it says that a moment is within its limit.
+// Whether a moment is valid; each `At` is. The call of `millis` is for the proof: it says that a
+// moment is within its limit.
 fn is_moment(at: At) -> bool
     ensures { Tells result (at ≤ last_moment) }
 {
@@ -245,7 +252,8 @@ fn is_moment(at: At) -> bool
     true
 }
 
-// Whether an actor is valid; each `Actor` is. The call of `number` is for the proof: it says that an actor's number is at most 15.
+// Whether an actor is valid; each `Actor` is. The call of `number` is for the proof: it says that
+// an actor's number is at most 15.
 fn is_actor(actor: Actor) -> bool
     ensures { Tells result (actor ≤ 15) }
 {

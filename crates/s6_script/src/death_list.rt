@@ -1,4 +1,5 @@
-//! The list of exits of a `permafailon`, in a script: reading it, and its spelling (the words by which a script writes it).
+//! The list of exits of a `permafailon`, in a script: reading it, and its spelling (the words by
+//! which a script writes it).
 ghost use Rattle.std.specs.Prelude.{◌≡◌, ◌++◌, ◌∷◌, [], unwrap_or, decimal, map, codes, IfOk, OnOk};
 ghost use Rattle.std.specs.List.{flat_map, join_with_byte};
 ghost use Rattle.servicedir.specs.SignalName.{name_of_signal};
@@ -15,8 +16,9 @@ use servicedir::signal_name;
 use std::alloc::{AllocError, Allocator};
 use tree_core::Act;
 
-/// Reads a permafailon from the words behind its verb. Where the word for the list spells no list of exits, it gives a tick: that has another
-/// spelling than the words, so `parse.rt` refuses the line.
+/// Reads a permafailon from the words behind its verb. Where the word for the list spells no list
+/// of exits, it gives a tick: that has another spelling than the words, so `parse.rt` refuses the
+/// line.
 pub fn permafailon_of<A: Allocator + Copy>(
     alloc: A,
     words: &mut Words<'_>,
@@ -42,7 +44,8 @@ fn name_or_nothing(signal: u8) -> &'static str
     signal_name(signal).unwrap_or("")
 }
 
-// Adds an item of the list to the text: a code, as `7`, a range of codes, as `1-2`, or a signal, as `SIGTERM`.
+// Adds an item of the list to the text: a code, as `7`, a range of codes, as `1-2`, or a signal, as
+// `SIGTERM`.
 fn push_item<A: Allocator>(text: &mut Vec<u8, A>, item: &DeathItem) -> Result<(), AllocError>
     ensures { OnOk result (text.new.items ≡ text.old.items ++ item_text item.now) }
 {
@@ -86,7 +89,8 @@ fn push_items<A: Allocator>(text: &mut Vec<u8, A>, items: &[DeathItem]) -> Resul
     Ok(())
 }
 
-/// Adds the words of a permafailon to the text: its verb, the name, the seconds, the count, and the list of exits.
+/// Adds the words of a permafailon to the text: its verb, the name, the seconds, the count, and the
+/// list of exits.
 pub fn push_permafailon<A: Allocator>(
     text: &mut Vec<u8, A>,
     name: &Name,
@@ -101,7 +105,8 @@ pub fn push_permafailon<A: Allocator>(
     push_permafailon_of(text, name, seconds, count, list.items())
 }
 
-// Adds the words of a permafailon to the text: its verb, the name, the seconds, the count, and the list of exits with these items.
+// Adds the words of a permafailon to the text: its verb, the name, the seconds, the count, and the
+// list of exits with these items.
 pub fn push_permafailon_of<A: Allocator>(
     text: &mut Vec<u8, A>,
     name: &Name,

@@ -4,7 +4,8 @@ ghost use Rattle.std.specs.Prelude.{◌≡◌, ◌++◌, ◌∷◌, decimal, OnO
 use itoa::Buffer;
 use std::alloc::{AllocError, Allocator};
 
-/// Adds the decimal digits of a number to a text. Where memory is refused, nothing is promised of the text.
+/// Adds the decimal digits of a number to a text. Where memory is refused, nothing is promised of
+/// the text.
 pub fn push_number<A: Allocator>(text: &mut Vec<u8, A>, number: u64) -> Result<(), AllocError>
     ensures { OnOk result (text.new.items ≡ text.old.items ++ decimal number) }
 {
@@ -12,7 +13,8 @@ pub fn push_number<A: Allocator>(text: &mut Vec<u8, A>, number: u64) -> Result<(
     text.extend_from_slice(digits.format(number).as_bytes())
 }
 
-/// Adds a space and the decimal digits of a number to a text. Where memory is refused, nothing is promised of the text.
+/// Adds a space and the decimal digits of a number to a text. Where memory is refused, nothing is
+/// promised of the text.
 pub fn push_spaced<A: Allocator>(text: &mut Vec<u8, A>, number: u64) -> Result<(), AllocError>
     ensures { OnOk result (text.new.items ≡ text.old.items ++ 32 ∷ decimal number) }
 {

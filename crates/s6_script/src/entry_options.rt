@@ -1,5 +1,6 @@
-//! The entries of a scan, in a script: a name, and options, which are the settings of its configuration that aren't at their defaults. A word that
-//! is no entry gives some entry: `parse.rt` then refuses the line, since it spells each input again and compares.
+//! The entries of a scan, in a script: a name, and options, which are the settings of its
+//! configuration that aren't at their defaults. A word that is no entry gives some entry:
+//! `parse.rt` then refuses the line, since it spells each input again and compares.
 ghost use Rattle.std.specs.Prelude.{◌≡◌, ◌≢◌, ◌++◌, ◌∷◌, ℕ, ◌+◌, ◌≤◌, List, length, map, codes, decimal, IsTrue, IfOk, OnOk, MatchOption, All};
 ghost use Rattle.std.specs.List.{slice_split, flat_map};
 ghost use Rattle.servicedir.specs.Config.{is_served};
@@ -136,7 +137,8 @@ fn push_options<A: Allocator>(text: &mut Vec<u8, A>, settings: &[Setting]) -> Re
     Ok(())
 }
 
-// Adds to the text the options of the configuration, or `!` where none could be read of the directory.
+// Adds to the text the options of the configuration, or `!` where none could be read of the
+// directory.
 fn push_config<A: Allocator>(
     text: &mut Vec<u8, A>,
     config: &Option<Config>,
@@ -187,7 +189,8 @@ fn descriptor_of(word: &[u8]) -> u8
     ensures fits { IsTrue (is_served result) }
 {
     match number(word, 9) as u8 {
-        // Readiness can't be written to these: the option is spelled otherwise with 1, and so refused.
+        // Readiness can't be written to these: the option is spelled otherwise with 1, and so
+        // refused.
         0 | 2 => 1,
         descriptor => descriptor,
     }
@@ -210,7 +213,8 @@ fn millis_of(word: &[u8]) -> u32
     number(word, u64::from(u32::MAX)) as u32
 }
 
-// Reads an option of an entry: its key tells which setting it is, and what stands behind the key is the value.
+// Reads an option of an entry: its key tells which setting it is, and what stands behind the key is
+// the value.
 fn setting_of(word: &[u8]) -> Setting
     ensures spelled { (s : Setting) → IsSetting s → word.now ≡ option_word s → result ≡ s }
     ensures fits { IsSetting result }
@@ -246,14 +250,16 @@ fn config_of(options: &[&[u8]]) -> Config
     config
 }
 
-// The parts of an entry: its name, and its options. The name ends with a colon, each option but the last with a comma.
+// The parts of an entry: its name, and its options. The name ends with a colon, each option but the
+// last with a comma.
 fn parts_of<A: Allocator + Copy>(alloc: A, word: &[u8]) -> Result<Vec<&[u8], A>, AllocError>
     ensures { IfOk result (λ parts. map (λ w. w.now) parts.items ≡ slice_split ends_part word.now) }
 {
     word.split(|b| *b == b':' || *b == b',').collect(alloc)
 }
 
-// The name of an entry whose directory couldn't be read, which ends with `!`; None where the word doesn't.
+// The name of an entry whose directory couldn't be read, which ends with `!`; None where the word
+// doesn't.
 fn unread_name(word: &[u8]) -> Option<&[u8]>
     ensures { MatchOption result ((name : List ℕ) → word.now ≢ name ++ codes "!")
         (λ name. word.now ≡ name.now ++ codes "!") }
@@ -261,7 +267,8 @@ fn unread_name(word: &[u8]) -> Option<&[u8]>
     word.strip_suffix(b"!")
 }
 
-// Reads an entry: a name with `!` behind it, where its directory couldn't be read, or with the options of its configuration.
+// Reads an entry: a name with `!` behind it, where its directory couldn't be read, or with the
+// options of its configuration.
 fn entry_of<A: Allocator + Copy>(alloc: A, word: &[u8]) -> Result<Entry, AllocError>
     ensures spelled { IfOk result
         (λ found. (e : Entry) → IsEntry e → word.now ≡ entry_text e → found ≡ e) }

@@ -1,4 +1,5 @@
-//! Scripts: inputs of the machine, and acts, as text. The format is this program's own, not one of s6.
+//! Scripts: inputs of the machine, and acts, as text. The format is this program's own, not one of
+//! s6.
 #![tactic(auto)]
 
 mod act_limits;

@@ -1,8 +1,8 @@
-//! Reads an act, and an input line, which is a moment, an actor and an act. In a line, a start, a death and a tick are read word for word
-//! (`reports.rt`). For all other acts, and all that `parse_act` reads, each function that reads a part, here, in `words.rt` and in
-//! `entry_options.rt`, gives the value that its words spell, and for words that spell none any value of its type. The act that comes of this is
-//! spelled again, and returned only where the spelling equals the words that were read. So no function has to look for words that spell no act. A
-//! pattern is built last, so a line is refused for its pattern only where it spells an act otherwise.
+//! Reads an act, and an input line, which is a moment, an actor and an act. Parts are read without
+//! checking, here, in `words.rt` and in `entry_options.rt`. The act is then written out again;
+//! where that differs from the words that were read, they are refused. But the starts, deaths and
+//! ticks of a line are read word for word (`reports.rt`). A pattern is built last, so a line is
+//! refused for its pattern only where it spells an act otherwise.
 ghost use Rattle.std.specs.Prelude.{◌≡◌, ℕ, ◌≤◌, ◌<◌, ◌^◌, ◌-◌, ◌∷◌, ◌++◌, [], List, Bool, Err, IfOk, OnOk, Some, IfSome, true, decimal, drop, map, length, slice_index_or};
 ghost use Rattle.hex.specs.Hex.{IsBytes, encode_lower};
 ghost use Rattle.s6_script.specs.Spelling.{HasExpression, IsExit, IsAct, SpellsAct, SpellsActButForPattern, act_words};
@@ -35,8 +35,9 @@ pub enum LineFault {
     /// It spells no input.
     #[error("the line spells no input")]
     Line = 1,
-    /// It spells a subscription, but `regex` refuses its pattern, and not for want of memory. A pattern of no byte or of more than 256, or
-    /// with a byte that isn't between a space and a tilde, has no spelling: then the fault is `Line`.
+    /// It spells a subscription, but `regex` refuses its pattern, and not for want of memory. A
+    /// pattern of no byte or of more than 256, or with a byte that isn't between a space and a
+    /// tilde, has no spelling: then the fault is `Line`.
     #[error("the pattern of the line does not build")]
     Pattern = 2,
     /// Memory was refused.
@@ -87,8 +88,8 @@ pub enum Verb {
     Tick,
 }
 
-// Reads an exit. Its first word is `code` or `signal`; the length of the word (4 for `code`) says which. Words that spell none give some exit, with
-// which the line is refused later.
+// Reads an exit. Its first word is `code` or `signal`; the length of the word (4 for `code`) says
+// which.
 fn exit_of(words: &mut Words<'_>) -> Exit
     ensures spelled { (e : Exit) → IsExit e → words.old ≡ exit_words e → result ≡ e }
     ensures fits { IsExit result }
@@ -117,9 +118,9 @@ fn has_form_of(word: &[u8], other: &[u8]) -> bool
     word.len() == other.len() && last_of(word) == last_of(other)
 }
 
-// Reads a verb. No two verbs have the same length and the same last byte. A word that has those of a verb gives this verb, and any other word
-// gives `Tick`. A word that is no verb is refused later, since the verb that it gave is spelled otherwise. Verbs that come most often are
-// looked for first.
+// Reads a verb. No two verbs have the same length and the same last byte. A word that has those of
+// a verb gives this verb, and any other word `Tick`. Verbs that come most often are looked for
+// first.
 fn verb_of(word: &[u8]) -> Verb
     ensures { (v : Verb) → word.now ≡ verb_word v → result ≡ v }
 {
@@ -162,7 +163,7 @@ fn verb_of(word: &[u8]) -> Verb
     }
 }
 
-// Reads the letter of an order to all services: n, or t. Any other word gives that of t, and is refused later.
+// Reads the letter of an order to all services: n, or t. Any other word gives that of t.
 fn order_of(word: &[u8]) -> ScanOrder
     ensures { (order : ScanOrder) → word.now ≡ order_word order → result ≡ order }
 {
@@ -173,7 +174,7 @@ fn order_of(word: &[u8]) -> ScanOrder
     }
 }
 
-// Reads a process number, from 1 to 2147483647; a word that spells none gives some number, with which the line is refused later.
+// Reads a process number, from 1 to 2147483647.
 fn process_of(word: &[u8]) -> u32
     ensures spelled { (n : ℕ) → 1 ≤ n → n ≤ 2147483647 → word.now ≡ decimal n → result ≡ n }
     ensures low { 1 ≤ result }
@@ -182,7 +183,7 @@ fn process_of(word: &[u8]) -> u32
     number(word, 2_147_483_647).max(1) as u32
 }
 
-// Reads a serial or a generation; a word that spells none gives some number, with which the line is refused later.
+// Reads a serial or a generation.
 fn serial_of(word: &[u8]) -> u64
     ensures { (n : ℕ) → n < 2 ^ 64 → word.now ≡ decimal n → result ≡ n }
 {
@@ -216,7 +217,7 @@ fn add_letter(letters: &mut Letters, byte: u8)
     }
 }
 
-// Reads control letters: 1 to 63, whatever the word is. One that spells no such letters is refused later.
+// Reads control letters: 1 to 63, whatever the word is.
 fn letters_of(word: &[u8]) -> Letters
     ensures spelled { (letters : List ControlLetter) → 1 ≤ length letters → length letters ≤ 63
         → word.now ≡ map byte_of letters → result.items ≡ letters }
@@ -262,7 +263,8 @@ fn bytes_of(word: &[u8]) -> ArrayVec<u8, 64>
     bytes
 }
 
-// Reads an act from its verb and the words behind it; a report here, any other act but a tick by `request_of`.
+// Reads an act from its verb and the words behind it; a report here, any other act but a tick by
+// `request_of`.
 fn act_of<A: Allocator + Copy>(
     alloc: A,
     verb: Verb,
@@ -299,8 +301,8 @@ fn act_of<A: Allocator + Copy>(
     Ok(UnbuiltAct::Whole(act))
 }
 
-// Reads an act that is asked for (no report, no tick) from its verb and the words behind it. It is not inlined: else reading each line would fill a
-// place for each of these acts.
+// Reads an act that is asked for (no report, no tick) from its verb and the words behind it. It is
+// not inlined: else reading each line would fill a place for each of these acts.
 #[inline(never)]
 fn request_of<A: Allocator + Copy>(
     alloc: A,
@@ -331,7 +333,8 @@ fn request_of<A: Allocator + Copy>(
     Ok(UnbuiltAct::Whole(act))
 }
 
-// Reads an act from its words: any act, where they spell none. The pattern of a subscription is not built yet.
+// Reads an act from its words: any act, where they spell none. The pattern of a subscription is not
+// built yet.
 fn read_act<A: Allocator + Copy>(alloc: A, words: &mut Words<'_>) -> Result<UnbuiltAct<A>, NoMemory>
     ensures spelled { IfOk result (λ found. (act : Act A) → IsAct act → words.old ≡ act_words act
         → act_read found ≡ act) }
@@ -341,10 +344,11 @@ fn read_act<A: Allocator + Copy>(alloc: A, words: &mut Words<'_>) -> Result<Unbu
     act_of(alloc, verb, words)
 }
 
-/// The act that a text spells. The text may be of any length. A pattern takes its memory from `patterns`, and all else from `alloc`. The
-/// pattern of an act is one that the grammar of `regex` reads; it is built only where the text spells an act otherwise. `Line` where the
-/// text spells no act. `Pattern` where it spells a subscription, but `regex` refuses its pattern, and not for want of memory. `NoMemory`
-/// where memory is refused. On error nothing is kept.
+/// The act that a text spells. The text may be of any length. A pattern takes its memory from
+/// `patterns`, and all else from `alloc`. The pattern of an act is one that the grammar of `regex`
+/// reads; it is built only where the text spells an act otherwise. `Line` where the text spells no
+/// act. `Pattern` where it spells a subscription, but `regex` refuses its pattern, and not for want
+/// of memory. `NoMemory` where memory is refused. On error nothing is kept.
 pub fn parse_act<A: Allocator + Copy>(
     alloc: A,
     patterns: Global,
@@ -360,8 +364,9 @@ pub fn parse_act<A: Allocator + Copy>(
     parse_other(alloc, patterns, words, &mut text)
 }
 
-// The act that the words spell: they are read, the act is spelled again into `text`, and where that equals the words, its pattern is built, with
-// memory from `patterns`. It is not inlined, since most acts are read word for word.
+// The act that the words spell: they are read, the act is spelled again into `text`, and where that
+// equals the words, its pattern is built, with memory from `patterns`. It is not inlined, since
+// most acts are read word for word.
 #[inline(never)]
 fn parse_other<A: Allocator + Copy>(
     alloc: A,
@@ -384,8 +389,9 @@ fn parse_other<A: Allocator + Copy>(
     }
 }
 
-// Puts the act that the words spell where it is to lie: a start, a death or a tick is read word for word, any other act is read by its parts,
-// spelled again and compared (`parse_other`). On error nothing is said of what lies there.
+// Puts the act that the words spell where it is to lie: a start, a death or a tick is read word for
+// word, any other act is read by its parts, spelled again and compared (`parse_other`). On error
+// nothing is said of what lies there.
 fn parse_act_into<A: Allocator + Copy>(
     alloc: A,
     patterns: Global,
@@ -431,10 +437,12 @@ fn take_actor(words: &mut Words<'_>) -> Option<Actor>
     Actor::new(take_number(words, 15)? as u8)
 }
 
-/// The input that a line spells: a moment, an actor, and an act. The line is given without its newline, and may be of any length. A pattern
-/// takes its memory from `patterns`, and all else from `alloc`. The pattern of an input is one that the grammar of `regex` reads; it is
-/// built only where the line spells an input otherwise. `Line` where the line spells no input. `Pattern` where it spells a subscription,
-/// but `regex` refuses its pattern, and not for want of memory. `NoMemory` where memory is refused. On error nothing is kept.
+/// The input that a line spells: a moment, an actor, and an act. The line is given without its
+/// newline, and may be of any length. A pattern takes its memory from `patterns`, and all else from
+/// `alloc`. The pattern of an input is one that the grammar of `regex` reads; it is built only
+/// where the line spells an input otherwise. `Line` where the line spells no input. `Pattern` where
+/// it spells a subscription, but `regex` refuses its pattern, and not for want of memory.
+/// `NoMemory` where memory is refused. On error nothing is kept.
 pub fn parse_line<A: Allocator + Copy>(
     alloc: A,
     patterns: Global,
@@ -459,8 +467,9 @@ pub fn parse_line<A: Allocator + Copy>(
     }
 }
 
-/// `parse_line`, which puts the input where it is to lie, and with a text of the caller in which the act may be spelled again, so that its
-/// memory is used again. What is in that text before and after doesn't matter; on error nothing is said of what lies in `input`.
+/// `parse_line`, which puts the input where it is to lie, and with a text of the caller in which
+/// the act may be spelled again, so that its memory is used again. What is in that text before and
+/// after doesn't matter; on error nothing is said of what lies in `input`.
 pub fn parse_into<A: Allocator + Copy>(
     alloc: A,
     patterns: Global,

@@ -61,7 +61,8 @@ fn push_plain_act<A: Allocator + Copy>(
     }
 }
 
-// Makes the text the words of an input (its moment, its actor, its act), whether it is within the limits of a script or not.
+// Makes the text the words of an input (its moment, its actor, its act), whether it is within the
+// limits of a script or not.
 #[tactic(auto, using(crate::proofs::Joined::join_act))]
 fn join<A: Allocator + Copy>(
     alloc: A,
@@ -77,8 +78,8 @@ fn join<A: Allocator + Copy>(
     push_plain_act(alloc, text, &input.act)
 }
 
-/// Makes the text the spelling of an input, and returns whether it has one: an input beyond the limits of a script has none. An error where
-/// memory is refused.
+/// Makes the text the spelling of an input, and returns whether it has one: an input beyond the
+/// limits of a script has none. An error where memory is refused.
 pub fn spell_plain<A: Allocator + Copy>(
     alloc: A,
     text: &mut Vec<u8, A>,

@@ -1,5 +1,5 @@
-//! Reads the acts that come most often, a start, a death and a tick, word for word: what is read of them needn't be spelled again and compared,
-//! as `parse.rt` does with other acts.
+//! Reads the acts that come most often, a start, a death and a tick, word for word: what is read of
+//! them needn't be spelled again and compared, as `parse.rt` does with other acts.
 ghost use Rattle.std.specs.Prelude.{◌≡◌, ◌<◌, ◌≤◌, ◌^◌, ◌∷◌, ◌++◌, ℕ, List, [], Some, true, IfSome, IsSome, IsTrue, OnSome, decimal};
 ghost use Rattle.s6_script.specs.Spelling.{act_words, HasExpression, IsAct, IsExit, SpellsAct};
 ghost use Rattle.s6_script.specs.Verb.{details, exit_words, verb_of_act, verb_word};
@@ -11,7 +11,8 @@ use s6_events::{Exit, Sid};
 use std::alloc::Allocator;
 use tree_core::Act;
 
-// Takes what names a run: the serial of its service, and its generation (the number of its start). None where the next words spell none.
+// Takes what names a run: the serial of its service, and its generation (the number of its start).
+// None where the next words spell none.
 fn take_life(words: &mut Words<'_>) -> Option<(Sid, u64)>
     ensures only { IfSome result (λ life. (life.0 < 2 ^ 64) × (life.1 < 2 ^ 64)
         × (words.old ≡ decimal life.0 ∷ decimal life.1 ∷ words.new)) }
@@ -41,7 +42,8 @@ fn take_exit(words: &mut Words<'_>) -> Option<Exit>
     }
 }
 
-// Takes what is told of a start, and puts it into `act`; None where the next words tell none, and then `act` is as it was.
+// Takes what is told of a start, and puts it into `act`; None where the next words tell none, and
+// then `act` is as it was.
 fn take_started<A: Allocator>(words: &mut Words<'_>, act: &mut Act<A>) -> Option<()>
     ensures fits { OnSome result (IsAct act.new) }
     ensures words { OnSome result ((verb_of_act act.new ≡ verbs.Started)
@@ -62,7 +64,8 @@ fn take_started<A: Allocator>(words: &mut Words<'_>, act: &mut Act<A>) -> Option
     Some(())
 }
 
-// Takes what is told of a death, and puts it into `act`; None where the next words tell none, and then `act` is as it was.
+// Takes what is told of a death, and puts it into `act`; None where the next words tell none, and
+// then `act` is as it was.
 fn take_death<A: Allocator>(words: &mut Words<'_>, act: &mut Act<A>) -> Option<()>
     ensures fits { OnSome result (IsAct act.new) }
     ensures words { OnSome result ((verb_of_act act.new ≡ verbs.Death)
@@ -77,7 +80,8 @@ fn take_death<A: Allocator>(words: &mut Words<'_>, act: &mut Act<A>) -> Option<(
     Some(())
 }
 
-// Takes a start, a death or a tick, with its verb, and puts it into `act`; None where the words left spell none.
+// Takes a start, a death or a tick, with its verb, and puts it into `act`; None where the words
+// left spell none.
 fn take_report<A: Allocator>(words: &mut Words<'_>, act: &mut Act<A>) -> Option<()>
     ensures fits { OnSome result (IsAct act.new) }
     ensures read { OnSome result (is_read act.new ≡ true) }
@@ -98,8 +102,9 @@ fn take_report<A: Allocator>(words: &mut Words<'_>, act: &mut Act<A>) -> Option<
     }
 }
 
-/// Puts the start, the death or the tick that a text spells into `act`. False where it spells another act or none, or where a serial or a
-/// generation is 10^19 or more: then nothing is said of `act`, and whoever calls reads the text otherwise.
+/// Puts the start, the death or the tick that a text spells into `act`. False where it spells
+/// another act or none, or where a serial or a generation is 10^19 or more: then nothing is said of
+/// `act`, and whoever calls reads the text otherwise.
 pub fn read_report<A: Allocator>(text: &[u8], act: &mut Act<A>) -> bool
     ensures found { IsTrue result → SpellsAct text.now act.new }
     ensures only { IsTrue result → (other : Act A) → SpellsAct text.now other → act.new ≡ other }

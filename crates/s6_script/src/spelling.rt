@@ -1,4 +1,5 @@
-//! The spelling of an act: the words by which a script writes it. Each function adds words to the end of a text.
+//! The spelling of an act: the words by which a script writes it. Each function adds words to the
+//! end of a text.
 ghost use Rattle.std.specs.Prelude.{◌≡◌, ◌++◌, ◌∷◌, [], map, codes, decimal, OnOk};
 ghost use Rattle.std.specs.List.{join_with_byte};
 ghost use Rattle.hex.specs.Hex.{encode_lower};
@@ -32,7 +33,8 @@ pub fn push_letters<A: Allocator>(
     Ok(())
 }
 
-// Adds the words of an exit to the text: `code` and the exit code, or `signal` and the number of the signal.
+// Adds the words of an exit to the text: `code` and the exit code, or `signal` and the number of
+// the signal.
 fn push_exit<A: Allocator>(text: &mut Vec<u8, A>, exit: Exit) -> Result<(), AllocError>
     ensures { OnOk result (text.new.items ≡ text.old.items ++ join_with_byte 32 (exit_words exit)) }
 {
@@ -61,7 +63,8 @@ pub(crate) fn push_scan<A: Allocator>(
     Ok(())
 }
 
-/// Adds the words of letters for a service. An error where memory is refused; what was added before stays.
+/// Adds the words of letters for a service. An error where memory is refused; what was added before
+/// stays.
 pub fn push_svc<A: Allocator>(
     text: &mut Vec<u8, A>,
     name: &Name,
@@ -76,7 +79,8 @@ pub fn push_svc<A: Allocator>(
     push_letters(text, letters)
 }
 
-// Adds the words of a notification to the text: those of a report, and its bytes as hexadecimal digits.
+// Adds the words of a notification to the text: those of a report, and its bytes as hexadecimal
+// digits.
 pub(crate) fn push_notify<A: Allocator + Copy>(
     alloc: A,
     text: &mut Vec<u8, A>,
@@ -92,7 +96,8 @@ pub(crate) fn push_notify<A: Allocator + Copy>(
     push_word(text, digits.as_bytes())
 }
 
-/// Adds the words of a verb and a name. An error where memory is refused; what was added before stays.
+/// Adds the words of a verb and a name. An error where memory is refused; what was added before
+/// stays.
 pub fn push_named<A: Allocator>(
     text: &mut Vec<u8, A>,
     verb: &str,
@@ -118,7 +123,8 @@ pub(crate) fn push_serial<A: Allocator>(
     push_spaced(text, serial)
 }
 
-// Adds the words of a report of a run to the text: a verb, the serial of the service, and the generation (the number of the run).
+// Adds the words of a report of a run to the text: a verb, the serial of the service, and the
+// generation (the number of the run).
 pub(crate) fn push_report<A: Allocator>(
     text: &mut Vec<u8, A>,
     verb: &str,
@@ -146,7 +152,8 @@ pub(crate) fn push_started<A: Allocator>(
     push_spaced(text, u64::from(pid))
 }
 
-// Adds the words of the end of a `run` or a `finish` to the text: those of a report, with the verb `death` or `finished`, and the exit.
+// Adds the words of the end of a `run` or a `finish` to the text: those of a report, with the verb
+// `death` or `finished`, and the exit.
 pub(crate) fn push_ended<A: Allocator>(
     text: &mut Vec<u8, A>,
     verb: &str,
@@ -204,7 +211,8 @@ pub fn push_act<A: Allocator + Copy>(
     }
 }
 
-// Makes the text the spelling of an act that was read. The pattern of a subscription, which isn't built yet, is spelled by its text.
+// Makes the text the spelling of an act that was read. The pattern of a subscription, which isn't
+// built yet, is spelled by its text.
 pub fn spell_read<A: Allocator + Copy>(
     alloc: A,
     text: &mut Vec<u8, A>,

@@ -1,5 +1,5 @@
-//! Subscriptions and messages for event directories, in a script: reading them, and their spelling. A word that spells none gives some value, with
-//! which the line is refused later (`parse.rt`).
+//! Subscriptions and messages for event directories, in a script: reading them, and their spelling.
+//! A word that spells none gives some value, with which the line is refused later (`parse.rt`).
 ghost use Rattle.std.specs.Prelude.{◌≡◌, ◌++◌, ◌∷◌, [], List, ℕ, Bool, true, IsTrue, codes, drop, slice_index_or, string_bytes, IfOk, OnOk};
 ghost use Rattle.std.specs.List.{join_with_byte};
 ghost use Rattle.event_directory.specs.Message.{is_message};
@@ -19,7 +19,8 @@ use s6_events::{Name, NoMemory};
 use std::alloc::{AllocError, Allocator};
 use tree_core::{Act, Target};
 
-// Reads which event directory is meant: that of a service behind `svc`, else a free one. A word that is neither `svc` nor `dir` is refused later.
+// Reads which event directory is meant: that of a service behind `svc`, else a free one. A word
+// that is neither `svc` nor `dir` is refused later.
 fn target_of(words: &mut Words<'_>) -> Target
     ensures spelled { (target : Target) → IsTrue (is_name (target_name target)) →
         slice_index_or words.old 0 [] ≡ target_word target
@@ -36,7 +37,8 @@ fn target_of(words: &mut Words<'_>) -> Target
     }
 }
 
-// Reads whether a subscription goes on after a match: `repeat`. Any other word than `once` is refused later.
+// Reads whether a subscription goes on after a match: `repeat`. Any other word than `once` is
+// refused later.
 fn repeats_of(word: &[u8]) -> bool
     ensures { (repeats : Bool) → word.now ≡ how_word repeats → result ≡ repeats }
 {
@@ -54,7 +56,8 @@ fn pattern_text<A: Allocator + Copy>(alloc: A, bytes: &[u8]) -> Result<String<A>
     }
 }
 
-/// Reads a subscription from the words behind its verb. Its pattern is the rest of the line, with its spaces.
+/// Reads a subscription from the words behind its verb. Its pattern is the rest of the line, with
+/// its spaces.
 pub fn subscribe_of<A: Allocator + Copy>(
     alloc: A,
     words: &mut Words<'_>,
@@ -127,7 +130,8 @@ fn push_target<A: Allocator>(text: &mut Vec<u8, A>, target: &Target) -> Result<(
     push_word(text, name_in(target).as_bytes())
 }
 
-/// Adds the words of a subscription to the text: its verb, the event directory, `once` or `repeat`, and the pattern.
+/// Adds the words of a subscription to the text: its verb, the event directory, `once` or `repeat`,
+/// and the pattern.
 pub fn push_subscribe<A: Allocator>(
     text: &mut Vec<u8, A>,
     target: &Target,
@@ -145,7 +149,8 @@ pub fn push_subscribe<A: Allocator>(
     Ok(())
 }
 
-/// Adds the words of a message to be sent to the text: its verb, the event directory, and its letters.
+/// Adds the words of a message to be sent to the text: its verb, the event directory, and its
+/// letters.
 pub fn push_send<A: Allocator>(
     text: &mut Vec<u8, A>,
     target: &Target,
@@ -157,7 +162,8 @@ pub fn push_send<A: Allocator>(
     push_send_of(text, target, message.as_bytes())
 }
 
-// Adds the words of a message of these letters to the text: its verb, the event directory (`target`), and the letters.
+// Adds the words of a message of these letters to the text: its verb, the event directory
+// (`target`), and the letters.
 pub fn push_send_of<A: Allocator>(
     text: &mut Vec<u8, A>,
     target: &Target,

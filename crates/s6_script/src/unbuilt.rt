@@ -1,4 +1,5 @@
-//! What was read from the words of an act, where the pattern of a subscription isn't built yet, and building that pattern.
+//! What was read from the words of an act, where the pattern of a subscription isn't built yet, and
+//! building that pattern.
 ghost use Rattle.std.specs.Prelude.{◌≡◌, ◌≢◌, ◌↔◌, Err, IfOk, IsErrOf, IsTrue, false};
 ghost use Rattle.event_directory.specs.Pattern.{is_expression, is_pattern_text};
 ghost use Rattle.s6_script.specs.Spelling.{HasExpression, IsAct, IsSubscription};
@@ -9,15 +10,16 @@ use event_directory::{Pattern, PatternFault};
 use std::alloc::{Allocator, Global};
 use tree_core::{Act, Target};
 
-// An act that was read: a whole one, or a subscription with the text of its pattern, which isn't built yet, and whether it goes on after a
-// match. The text may be that of no pattern.
+// An act that was read: a whole one, or a subscription with the text of its pattern, which isn't
+// built yet, and whether it goes on after a match. The text may be that of no pattern.
 #[derive(Drop)]
 pub enum UnbuiltAct<A: Allocator> {
     Whole(Act<A>),
     Subscribe(Target, String<A>, bool),
 }
 
-// Builds a pattern, with memory from `patterns`. `Line` where the text is not one of 1 to 256 bytes between a space and a tilde.
+// Builds a pattern, with memory from `patterns`. `Line` where the text is not one of 1 to 256 bytes
+// between a space and a tilde.
 fn build_pattern(patterns: Global, text: &str) -> Result<Pattern, LineFault>
     ensures ok { IfOk result (λ pattern. pattern ≡ text.now) }
     ensures expression { IfOk result (λ _. IsTrue (is_expression text.now)) }
@@ -29,7 +31,8 @@ fn build_pattern(patterns: Global, text: &str) -> Result<Pattern, LineFault>
     }
 }
 
-// What is wrong with a line whose pattern was not built: a text of a length or with a byte that no pattern has is no part of any input.
+// What is wrong with a line whose pattern was not built: a text of a length or with a byte that no
+// pattern has is no part of any input.
 fn line_fault_of(fault: PatternFault) -> LineFault
     ensures { result ≡ pattern_line_fault fault }
 {
@@ -40,8 +43,9 @@ fn line_fault_of(fault: PatternFault) -> LineFault
     }
 }
 
-// Builds the pattern of an act that has one to be built, with memory from `patterns`; any other act is whole. `Line` where the pattern's text is
-// not one of 1 to 256 bytes between a space and a tilde.
+// Builds the pattern of an act that has one to be built, with memory from `patterns`; any other act
+// is whole. `Line` where the pattern's text is not one of 1 to 256 bytes between a space and a
+// tilde.
 pub fn build_act<A: Allocator>(patterns: Global, act: UnbuiltAct<A>) -> Result<Act<A>, LineFault>
     ensures ok { IfOk result (λ built. built ≡ act_read act) }
     ensures expression { FitsButText act → IfOk result HasExpression }

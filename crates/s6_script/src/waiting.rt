@@ -14,8 +14,9 @@ use s6_events::{Condition, Mode, Name, NoMemory};
 use std::alloc::{AllocError, Allocator};
 use tree_core::{Act, Names};
 
-// Reads a condition; where the word is none, some condition, with which the line is refused later (`parse.rt`). The letters are those of the
-// command line: u up, U up and ready, d down, D down with `finish` done; r up after a start since the wait began, R that, and ready.
+// Reads a condition; where the word is none, some condition, with which the line is refused later
+// (`parse.rt`). The letters are those of the command line: u up, U up and ready, d down, D down
+// with `finish` done; r up after a start since the wait began, R that, and ready.
 fn condition_of(word: &[u8]) -> Condition
     ensures { (condition : Condition) → word.now ≡ condition_word condition → result ≡ condition }
 {
@@ -34,8 +35,8 @@ fn condition_of(word: &[u8]) -> Condition
     }
 }
 
-// Reads a mode; where the word is none, some mode, with which the line is refused later (`parse.rt`). The letters are those of the command line: a
-// for all of the services, o for one.
+// Reads a mode; where the word is none, some mode, with which the line is refused later
+// (`parse.rt`). The letters are those of the command line: a for all of the services, o for one.
 fn mode_of(word: &[u8]) -> Mode
     ensures { (mode : Mode) → word.now ≡ mode_word mode → result ≡ mode }
 {
@@ -63,8 +64,8 @@ fn names_of<A: Allocator + Copy>(
     Ok(names)
 }
 
-/// Reads a wait from the words behind its verb. They are the condition, the mode, the timeout in milliseconds (0 for none), and the names of the
-/// services.
+/// Reads a wait from the words behind its verb. They are the condition, the mode, the timeout in
+/// milliseconds (0 for none), and the names of the services.
 pub fn wait_of<A: Allocator + Copy>(alloc: A, words: &mut Words<'_>) -> Result<Act<A>, NoMemory>
     ensures spelled { IfOk result (λ found. (act : Act A) → IsAct act → Wait ≡ verb_of_act act
         → words.old ≡ details act → found ≡ act) }
@@ -91,7 +92,8 @@ fn condition_bytes(condition: Condition) -> &'static str
     }
 }
 
-// The letter by which a script spells whether a wait is for all of its services or for one, as on the command line.
+// The letter by which a script spells whether a wait is for all of its services or for one, as on
+// the command line.
 fn mode_bytes(mode: Mode) -> &'static str
     ensures { result.now ≡ mode_word mode }
 {
@@ -112,7 +114,8 @@ fn push_names<A: Allocator>(text: &mut Vec<u8, A>, names: &[Name]) -> Result<(),
     Ok(())
 }
 
-/// Adds the words of a wait to the text: its verb, the letters of its condition and its mode, the timeout, and the names.
+/// Adds the words of a wait to the text: its verb, the letters of its condition and its mode, the
+/// timeout, and the names.
 pub fn push_wait<A: Allocator>(
     text: &mut Vec<u8, A>,
     condition: Condition,

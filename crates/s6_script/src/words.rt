@@ -1,5 +1,5 @@
-//! The words of a line, and reading single words. Some functions give any value for a word that spells none: `parse.rt` spells what was read again,
-//! and refuses the line where that differs.
+//! The words of a line, and reading single words. Some functions give any value for a word that
+//! spells none: `parse.rt` spells what was read again, and refuses the line where that differs.
 ghost use Rattle.std.specs.Prelude.{◌≡◌, ℕ, ◌≤◌, ◌<◌, ◌^◌, nat_lt, [], ◌∷◌, decimal, length, map, bytes_eq, drop, take, get_or, slice_index_or, true, false, Some, IfSome};
 ghost use Rattle.std.specs.List.{join_with_byte, list_all};
 ghost use Rattle.s6_events.specs.Name.{is_name};
@@ -11,8 +11,8 @@ use memchr::memchr;
 use s6_events::Name;
 use std::marker::Model;
 
-// The words of a line that are left to read. A word is what is between two spaces, so there is a word of no byte between two spaces side by
-// side, and a line of no byte is one such word.
+// The words of a line that are left to read. A word is what is between two spaces, so there is a
+// word of no byte between two spaces side by side, and a line of no byte is one such word.
 #[derive(Drop)]
 pub struct Words<'a> {
     rest: &'a [u8],
@@ -99,8 +99,8 @@ pub fn words_from<'a, 'b>(words: &'b [&'a [u8]], place: usize) -> &'b [&'a [u8]]
     }
 }
 
-// Reads a number that is at most `most`. A word that spells no such number is not refused here: it gives some number up to `most`, with which the
-// line is refused later.
+// Reads a number that is at most `most`. A word that spells no such number is not refused here: it
+// gives some number up to `most`, with which the line is refused later.
 pub fn number(word: &[u8], most: u64) -> u64
     ensures spelled { (n : ℕ) → n ≤ most → word.now ≡ decimal n → result ≡ n }
     ensures fits { result ≤ most }
@@ -112,7 +112,8 @@ pub fn number(word: &[u8], most: u64) -> u64
     value.min(most)
 }
 
-// The number with this digit added at its end. Some number, where the byte is no digit, or the number doesn't fit into 64 bits.
+// The number with this digit added at its end. Some number, where the byte is no digit, or the
+// number doesn't fit into 64 bits.
 fn with_digit(value: u64, byte: u8) -> u64
     ensures { is_digit byte ≡ true → with_digit value byte < 2 ^ 64
         → result ≡ with_digit value byte }
@@ -159,14 +160,16 @@ fn begins_with_zero(word: &[u8]) -> bool
     }
 }
 
-// Whether digits are the spelling of a number below 10^19: one digit, or more of which the first is no zero.
+// Whether digits are the spelling of a number below 10^19: one digit, or more of which the first is
+// no zero.
 fn is_number_text(digits: &[u8]) -> bool
     ensures { result ≡ is_number_text digits.now }
 {
     (1..=19).contains(&digits.len()) && (digits.len() == 1 || !begins_with_zero(digits))
 }
 
-// Takes the next word, where it spells a number of at most `most` that is below 10^19; None where it spells none.
+// Takes the next word, where it spells a number of at most `most` that is below 10^19; None where
+// it spells none.
 pub fn take_number(words: &mut Words<'_>, most: u64) -> Option<u64>
     ensures spelled { (n : ℕ) → n ≤ most → n < 10 ^ 19 → slice_index_or words.old 0 [] ≡ decimal n
         → result ≡ Some n }
@@ -181,7 +184,8 @@ pub fn take_number(words: &mut Words<'_>, most: u64) -> Option<u64>
         return None;
     }
     match line.get(count) {
-        // The line ends here, or a space follows; behind the digits of a number stands nothing else.
+        // The line ends here, or a space follows; behind the digits of a number stands nothing
+        // else.
         None => words.more = false,
         Some(b' ') => words.rest = &line[count + 1..],
         Some(_) => return None,
@@ -189,7 +193,8 @@ pub fn take_number(words: &mut Words<'_>, most: u64) -> Option<u64>
     Some(value)
 }
 
-// Reads a number of 32 bits: of seconds, deaths or milliseconds. A word that spells none gives some number, with which the line is refused later.
+// Reads a number of 32 bits: of seconds, deaths or milliseconds. A word that spells none gives some
+// number, with which the line is refused later.
 pub fn count_of(word: &[u8]) -> u32
     ensures spelled { (n : ℕ) → n ≤ 4294967295 → word.now ≡ decimal n → result ≡ n }
     ensures fits { result ≤ 4294967295 }
@@ -204,7 +209,8 @@ pub fn is_word(word: &[u8], text: &[u8]) -> bool
     word == text
 }
 
-// Reads a name; where the word is none, some name, with which the line is refused later (`parse.rt`).
+// Reads a name; where the word is none, some name, with which the line is refused later
+// (`parse.rt`).
 pub fn name_of(word: &[u8]) -> Name
     ensures spelled { is_name word.now ≡ true → result ≡ word.now }
     ensures fits { is_name result ≡ true }

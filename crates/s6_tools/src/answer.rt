@@ -1,4 +1,5 @@
-//! Reads a line of the server, whose words are counted from 0. The lines are this program's own, not those of s6.
+//! Reads a line of the server, whose words are counted from 0. The lines are this program's own,
+//! not those of s6.
 ghost use Rattle.std.specs.Prelude.{◌≡◌};
 ghost use Rattle.s6_tools.specs.Answers.{is_done, kind_of, outcome_of, release_of, match_of, failure_of, answer_of, says_done};
 
@@ -19,10 +20,10 @@ pub enum Outcome {
     TimedOut,
 }
 
-/// What a line of the server says to the tool that reads it. A tool has at most one waiter or subscription on its connection, so it ignores
-/// serials.
+/// What a line of the server says to the tool that reads it. A tool has at most one waiter or
+/// subscription on its connection, so it ignores serials.
 #[derive(Debug, Drop)]
-pub enum Answer {
+pub enum ServerAnswer {
     /// `done`, `scanned ..`, `tally ..`, `recorded ..` or `clock ..`: the request was carried out.
     Done,
     /// `refused REASON`.
@@ -41,18 +42,18 @@ pub enum Answer {
     Matched(u8),
     /// `m SUB overlong`: the subscription has ended, because its text grew too long.
     Overlong,
-    /// `busy`: the server has no seat for one more connection.
+    /// `busy`: the server has no slot for one more connection.
     Busy,
     /// A line that no server writes.
     Strange,
 }
 
-impl Answer {
+impl ServerAnswer {
     /// Whether it says that the request was carried out.
     pub fn says_done(&self) -> bool
         ensures { result ≡ says_done self.now }
     {
-        matches!(self, Answer::Done)
+        matches!(self, ServerAnswer::Done)
     }
 }
 
@@ -82,7 +83,8 @@ fn is_done(word: &[u8]) -> bool
         || is_word(word, b"clock")
 }
 
-// The kind of a server's line, by `word`, the first word of the line; Strange where none of the other kinds begins with it.
+// The kind of a server's line, by `word`, the first word of the line; Strange where none of the
+// other kinds begins with it.
 fn kind_of(word: &[u8]) -> Kind
     ensures { result ≡ kind_of word.now }
 {
@@ -109,7 +111,8 @@ fn kind_of(word: &[u8]) -> Kind
     }
 }
 
-// How a waiter was released, by `word`, the third word of a line `r WAIT OUTCOME`; None where that is no outcome.
+// How a waiter was released, by `word`, the third word of a line `r WAIT OUTCOME`; None where that
+// is no outcome.
 fn outcome_of(word: &[u8]) -> Option<Outcome>
     ensures { result ≡ outcome_of word.now }
 {
@@ -127,62 +130,64 @@ fn outcome_of(word: &[u8]) -> Option<Outcome>
 }
 
 // What an `r` line says, by its third word.
-fn release_of(word: &[u8]) -> Answer
+fn release_of(word: &[u8]) -> ServerAnswer
     ensures { result ≡ release_of word.now }
 {
     match outcome_of(word) {
-        Some(outcome) => Answer::Released(outcome),
-        None => Answer::Strange,
+        Some(outcome) => ServerAnswer::Released(outcome),
+        None => ServerAnswer::Strange,
     }
 }
 
 // What an `m` line says, by its third word.
-fn match_of(word: &[u8]) -> Answer
+fn match_of(word: &[u8]) -> ServerAnswer
     ensures { result ≡ match_of word.now }
 {
     if is_word(word, b"overlong") {
-        return Answer::Overlong;
+        return ServerAnswer::Overlong;
     }
     match word {
-        [letter] => Answer::Matched(*letter),
-        _ => Answer::Strange,
+        [letter] => ServerAnswer::Matched(*letter),
+        _ => ServerAnswer::Strange,
     }
 }
 
-// Whether a service fails for good, by the word behind `permafail`: 125 where it does, as the status of `permafailon` says it, else 0.
-fn failure_of(word: &[u8]) -> Answer
+// Whether a service fails for good, by the word behind `permafail`: 125 where it does, as the
+// status of `permafailon` says it, else 0.
+fn failure_of(word: &[u8]) -> ServerAnswer
     ensures { result ≡ failure_of word.now }
 {
     if is_word(word, b"125") {
-        Answer::PermanentFailure(true)
+        ServerAnswer::PermanentFailure(true)
     } else if is_word(word, b"0") {
-        Answer::PermanentFailure(false)
+        ServerAnswer::PermanentFailure(false)
     } else {
-        Answer::Strange
+        ServerAnswer::Strange
     }
 }
 
 /// What a line says. The line is without its newline.
-pub fn read_answer(line: &[u8]) -> Answer
+pub fn read_answer(line: &[u8]) -> ServerAnswer
     ensures { result ≡ answer_of line.now }
 {
     match kind_of(word_or_none(line, 0)) {
-        Kind::Done => Answer::Done,
-        Kind::Refused => Answer::Refused(ToldWord::new(word_or_none(line, 1))),
-        Kind::Row => Answer::Row,
-        Kind::Waiter => Answer::Waiter,
-        Kind::Subscription => Answer::Subscription,
+        Kind::Done => ServerAnswer::Done,
+        Kind::Refused => ServerAnswer::Refused(ToldWord::new(word_or_none(line, 1))),
+        Kind::Row => ServerAnswer::Row,
+        Kind::Waiter => ServerAnswer::Waiter,
+        Kind::Subscription => ServerAnswer::Subscription,
         Kind::Failure => failure_of(word_or_none(line, 1)),
         // Behind `r` and `m` stands a serial, and then the verdict or the letter.
         Kind::Release => release_of(word_or_none(line, 2)),
         Kind::Match => match_of(word_or_none(line, 2)),
-        Kind::Busy => Answer::Busy,
-        Kind::Strange => Answer::Strange,
+        Kind::Busy => ServerAnswer::Busy,
+        Kind::Strange => ServerAnswer::Strange,
     }
 }
 
-/// Looks whether the answer says that the request was carried out. The fault is `Socket` where it is another line, which no server writes then.
-pub fn expect_done(answer: &Answer) -> Result<(), ToolFault> {
+/// Looks whether the answer says that the request was carried out. The fault is `Socket` where it
+/// is another line, which no server writes then.
+pub fn expect_done(answer: &ServerAnswer) -> Result<(), ToolFault> {
     if answer.says_done() {
         Ok(())
     } else {

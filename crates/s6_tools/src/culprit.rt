@@ -1,6 +1,7 @@
-//! Finds the wrong word of a command line. A clue says where to look: at a place (`At`), at a place if the word there is of a kind (`AtIf`), or for
-//! the first, second or only word of a kind (`Wrong`; `Plain` is no option). Places are counted from 0, behind the socket's path. Two clues are
-//! tried, one after the other.
+//! Finds the wrong word of a command line. A clue says where to look: at a place (`At`), at a place
+//! if the word there is of a kind (`AtIf`), or for the first, second or only word of a kind
+//! (`Wrong`; `Plain` is no option). Places are counted from 0, behind the socket's path. Two clues
+//! are tried, one after the other.
 ghost use Rattle.std.specs.Prelude.{◌≡◌, ◌<◌, ◌≤◌, IfSome, codes, length, map, option_map, position, slice_get};
 ghost use Rattle.std.specs.List.{find};
 ghost use Rattle.std.specs.Str.{bytes_eq};
@@ -93,7 +94,8 @@ fn only_wrong<'a>(words: &'a [&'a str], wrong: Wrong) -> Option<&'a str>
     }
 }
 
-// The word that a clue leads to: at a place, of a kind, or behind the first of a kind. Behind that one the second of its kind is looked for too.
+// The word that a clue leads to: at a place, of a kind, or behind the first of a kind. Behind that
+// one the second of its kind is looked for too.
 fn seen_by<'a>(clue: Clue, words: &'a [&'a str]) -> Option<&'a str>
     ensures { option_map (λ w. w.now) result ≡ seen_by clue (map (λ w. w.now) words.entry.now) }
 {
@@ -118,8 +120,9 @@ fn strange_of(tool: Tool) -> Wrong
     }
 }
 
-// Where to look for another word that the tool doesn't take, if no option is the wrong one: a dash alone, or a word behind those that it takes,
-// which are at most three for `svstat` and four for `permafailon`.
+// Where to look for another word that the tool doesn't take, if no option is the wrong one: a dash
+// alone, or a word behind those that it takes, which are at most three for `svstat` and four for
+// `permafailon`.
 fn spare_of(tool: Tool) -> Clue
     ensures { result ≡ spare_of tool }
 {
@@ -131,8 +134,9 @@ fn spare_of(tool: Tool) -> Clue
     }
 }
 
-// Where to look on the tool's command line for the first word that is one too many, as a second name behind `svc`, and where else. `svwait` and
-// `svlisten` may have many names, but only one condition, as `-u`, and one mode, as `-a`; behind `record` no word is taken, behind `mkfifodir`
+// Where to look on the tool's command line for the first word that is one too many, as a second
+// name behind `svc`, and where else. `svwait` and `svlisten` may have many names, but only one
+// condition, as `-u`, and one mode, as `-a`; behind `record` no word is taken, behind `mkfifodir`
 // one, and behind the others two.
 fn excess_of(tool: Tool) -> (Clue, Clue)
     ensures { result ≡ excess_of tool }
@@ -149,8 +153,9 @@ fn excess_of(tool: Tool) -> (Clue, Clue)
     }
 }
 
-// Where to look for the word that should be a number and is none, and where else: for `permafailon` SECS or else COUNT, for the others the
-// value of `-t`, in one word with it (`Valued`) or in the next, behind a word that ends with this letter (`Ended`).
+// Where to look for the word that should be a number and is none, and where else: for `permafailon`
+// SECS or else COUNT, for the others the value of `-t`, in one word with it (`Valued`) or in the
+// next, behind a word that ends with this letter (`Ended`).
 fn number_clues(tool: Tool) -> (Clue, Clue)
     ensures { result ≡ number_clues tool }
 {
@@ -163,8 +168,9 @@ fn number_clues(tool: Tool) -> (Clue, Clue)
     }
 }
 
-// Where to look for the word that should be a list and is none, and where else: for `permafailon` LIST, for `svstat` the value of `-o`, in
-// one word with it (`Valued`) or in the next, behind a word that ends with this letter (`Ended`).
+// Where to look for the word that should be a list and is none, and where else: for `permafailon`
+// LIST, for `svstat` the value of `-o`, in one word with it (`Valued`) or in the next, behind a
+// word that ends with this letter (`Ended`).
 fn list_clues(tool: Tool) -> (Clue, Clue)
     ensures { result ≡ list_clues tool }
 {
@@ -177,8 +183,8 @@ fn list_clues(tool: Tool) -> (Clue, Clue)
     }
 }
 
-// Where to look on the tool's command line for the word that should name a service or an event directory and doesn't; there is no second
-// place.
+// Where to look on the tool's command line for the word that should name a service or an event
+// directory and doesn't; there is no second place.
 fn name_clues(tool: Tool) -> (Clue, Clue)
     ensures { result ≡ name_clues tool }
 {
@@ -191,7 +197,8 @@ fn name_clues(tool: Tool) -> (Clue, Clue)
     }
 }
 
-// Where to look for the wrong word, and where else, by what is wrong with the words (`misuse`). A missing word can't be found.
+// Where to look for the wrong word, and where else, by what is wrong with the words (`misuse`). A
+// missing word can't be found.
 fn clues_of(tool: Tool, misuse: Misuse) -> (Clue, Clue)
     ensures { result ≡ clues_of tool misuse }
 {
@@ -206,7 +213,8 @@ fn clues_of(tool: Tool, misuse: Misuse) -> (Clue, Clue)
     }
 }
 
-// The place of the first `--`, behind which the program of `svlisten` stands; None where no word is `--`.
+// The place of the first `--`, behind which the program of `svlisten` stands; None where no word is
+// `--`.
 fn dashes_in(words: &[&str]) -> Option<usize>
     ensures place { result ≡ position (λ w. bytes_eq w.now (codes "--")) words.now }
     ensures bound { IfSome result (λ place. place < length words.now) }
@@ -253,8 +261,9 @@ pub fn culprit_of<'a>(tool: Tool, misuse: Misuse, words: &'a [&'a str]) -> Optio
     seen_by_either(clues_of(tool, misuse), own_words(tool, words))
 }
 
-// Where to look on a tool's command line for the word that names the service or the event directory that it asks about, and where else. A
-// tool that may have several names has such a word only where just one is given.
+// Where to look on a tool's command line for the word that names the service or the event directory
+// that it asks about, and where else. A tool that may have several names has such a word only where
+// just one is given.
 fn subject_clues(tool: Tool) -> (Clue, Clue)
     ensures { result ≡ subject_clues tool }
 {

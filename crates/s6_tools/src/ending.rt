@@ -11,7 +11,7 @@ use crate::sentences::{
     cause_before, cause_behind, complaint_of, help_words, refusal_of_subject, refusal_of_tree,
     right_of, see_words, unnamed_of, unread_words,
 };
-use crate::told::{Told, add_escaped, add_named};
+use crate::told::{FaultText, add_escaped, add_named};
 use crate::tool::Tool;
 use crate::tool_fault::ToolFault;
 use arrayvec::CapacityError;
@@ -29,7 +29,8 @@ const SYSTEM_STATUS: u8 = 111;
 /// The most bytes of a socket's path.
 const PATH_BYTES: usize = 107;
 
-/// Writes two lines about a fault in one write, one for programs and one for people, and returns the exit status. Takes no memory.
+/// Writes two lines about a fault in one write, one for programs and one for people, and returns
+/// the exit status. Takes no memory.
 pub fn tell_fault<E: Write>(
     tool: Tool,
     socket: &str,
@@ -39,15 +40,16 @@ pub fn tell_fault<E: Write>(
 ) -> u8
     ensures { result ≡ status_of_fault tool fault.now }
 {
-    // This is always `Ok`: the text fits into a `Told`.
+    // This is always `Ok`: the text fits into a `FaultText`.
     if let Ok(told) = told_of(tool, socket, words, fault) {
         let _ = errors.write_all(told.as_slice());
     }
     status_of(tool, fault)
 }
 
-// The exit status of a tool that failed by this fault: 100 for wrong words, 1 for a refusal of the server (111 for `svwait` and
-// `svlisten`), else 111. `Unread` is a refusal too: the last scan could not read the service's directory.
+// The exit status of a tool that failed by this fault: 100 for wrong words, 1 for a refusal of the
+// server (111 for `svwait` and `svlisten`), else 111. `Unread` is a refusal too: the last scan
+// could not read the service's directory.
 fn status_of(tool: Tool, fault: &ToolFault) -> u8
     ensures { result ≡ status_of_fault tool fault.now }
 {
@@ -61,18 +63,18 @@ fn status_of(tool: Tool, fault: &ToolFault) -> u8
     }
 }
 
-// The two lines about a fault of a tool, the first for programs and the second for people. `socket` is the path of the tree's socket, and
-// `words` are those behind it.
+// The two lines about a fault of a tool, the first for programs and the second for people. `socket`
+// is the path of the tree's socket, and `words` are those behind it.
 fn told_of(
     tool: Tool,
     socket: &str,
     words: &[&str],
     fault: &ToolFault,
-) -> Result<Told, CapacityError>
+) -> Result<FaultText, CapacityError>
     ensures { IfOk result (λ told. told.items
         ≡ told_text tool socket.now (map (λ w. w.now) words.now) fault.now) }
 {
-    let mut told = Told::new();
+    let mut told = FaultText::new();
     add_first_line(&mut told, tool, fault)?;
     told.try_extend_from_slice(tool.name().as_bytes())?;
     told.try_extend_from_slice(b": ")?;
@@ -81,8 +83,9 @@ fn told_of(
     Ok(told)
 }
 
-// Adds the first of the two lines about a fault, the one for programs: the name of the tool, and the reason in few words, as `svc: busy`.
-fn add_first_line(told: &mut Told, tool: Tool, fault: &ToolFault) -> Result<(), CapacityError>
+// Adds the first of the two lines about a fault, the one for programs: the name of the tool, and
+// the reason in few words, as `svc: busy`.
+fn add_first_line(told: &mut FaultText, tool: Tool, fault: &ToolFault) -> Result<(), CapacityError>
     ensures { OnOk result (told.new.items ≡ told.old.items ++ fault_line tool fault.now) }
 {
     told.try_extend_from_slice(tool.name().as_bytes())?;
@@ -91,8 +94,9 @@ fn add_first_line(told: &mut Told, tool: Tool, fault: &ToolFault) -> Result<(), 
     told.try_extend_from_slice(b"\n")
 }
 
-// Adds the reason of a fault to the line for programs, in few words, as `usage`, `busy` or `refused NoService`.
-fn add_reason(told: &mut Told, fault: &ToolFault) -> Result<(), CapacityError>
+// Adds the reason of a fault to the line for programs, in few words, as `usage`, `busy` or
+// `refused NoService`.
+fn add_reason(told: &mut FaultText, fault: &ToolFault) -> Result<(), CapacityError>
     ensures { OnOk result (told.new.items ≡ told.old.items ++ reason_of fault.now) }
 {
     match fault {
@@ -119,7 +123,7 @@ fn add_reason(told: &mut Told, fault: &ToolFault) -> Result<(), CapacityError>
 
 // Adds what the second line, the one for people, says about the fault.
 fn add_hint(
-    told: &mut Told,
+    told: &mut FaultText,
     tool: Tool,
     socket: &str,
     words: &[&str],
@@ -140,7 +144,7 @@ fn add_hint(
 
 // What the system or the server failed to do.
 fn add_cause(
-    told: &mut Told,
+    told: &mut FaultText,
     socket: &str,
     words: &[&str],
     fault: &ToolFault,
@@ -155,7 +159,7 @@ fn add_cause(
 
 // The path or the program that the fault is about.
 fn add_cause_word(
-    told: &mut Told,
+    told: &mut FaultText,
     socket: &str,
     words: &[&str],
     fault: &ToolFault,
@@ -176,9 +180,10 @@ fn add_cause_word(
     }
 }
 
-// Adds to the second line what is wrong with the words of a tool, and what would be right. `word` is the wrong word, where it is known.
+// Adds to the second line what is wrong with the words of a tool, and what would be right. `word`
+// is the wrong word, where it is known.
 fn add_misuse(
-    told: &mut Told,
+    told: &mut FaultText,
     tool: Tool,
     misuse: Misuse,
     word: Option<&str>,
@@ -193,9 +198,9 @@ fn add_misuse(
     add_advice(told, tool, misuse)
 }
 
-// What would be right, and where to read on: `; see s6_tree TOOL --help`. `see_words` is what stands before the tool's name there, and `help_words`
-// what stands behind it.
-fn add_advice(told: &mut Told, tool: Tool, misuse: Misuse) -> Result<(), CapacityError>
+// What would be right, and where to read on: `; see s6_tree TOOL --help`. `see_words` is what
+// stands before the tool's name there, and `help_words` what stands behind it.
+fn add_advice(told: &mut FaultText, tool: Tool, misuse: Misuse) -> Result<(), CapacityError>
     ensures { OnOk result (told.new.items ≡ told.old.items ++ advice_text tool misuse) }
 {
     told.try_extend_from_slice(b": ")?;
@@ -206,7 +211,7 @@ fn add_advice(told: &mut Told, tool: Tool, misuse: Misuse) -> Result<(), Capacit
 }
 
 // Why the server refused a request about this word.
-fn add_refusal(told: &mut Told, word: Option<&str>, reason: &[u8]) -> Result<(), CapacityError>
+fn add_refusal(told: &mut FaultText, word: Option<&str>, reason: &[u8]) -> Result<(), CapacityError>
     ensures { OnOk result (told.new.items
         ≡ told.old.items ++ refusal_text (option_map (λ w. w.now) word.entry) reason.now) }
 {
@@ -222,7 +227,7 @@ fn add_refusal(told: &mut Told, word: Option<&str>, reason: &[u8]) -> Result<(),
 }
 
 // Why the last scan could not read the directory of this service.
-fn add_unread(told: &mut Told, word: Option<&str>, why: &[u8]) -> Result<(), CapacityError>
+fn add_unread(told: &mut FaultText, word: Option<&str>, why: &[u8]) -> Result<(), CapacityError>
     ensures { OnOk result (told.new.items
         ≡ told.old.items ++ unread_text (option_map (λ w. w.now) word.entry) why.now) }
 {

@@ -1,10 +1,11 @@
-//! `mkfifodir`, `ftrig-notify` and `ftrig-wait`: the tools for event directories, in which letters are heard. A free one belongs to no service.
+//! `mkfifodir`, `ftrig-notify` and `ftrig-wait`: the tools for event directories, in which letters
+//! are heard. A free one belongs to no service.
 ghost use Rattle.std.specs.Prelude.{◌≡◌, All, IfOk, IsOk, OnOk, nat_lt, option_map, true, if◌then◌else◌};
 ghost use Rattle.event_directory.specs.Pattern.{is_expression};
 ghost use Rattle.s6_tools.specs.declared.misuse.Misuse.TheVariants as misuse;
 ghost use Rattle.s6_tools.specs.Targets.{before_event, target_of, IsPrintable};
 
-use crate::answer::{Answer, expect_done};
+use crate::answer::{ServerAnswer, expect_done};
 use crate::connection::{ask_server, ask_within};
 use crate::misuse::Misuse;
 use crate::patience::Patience;
@@ -36,17 +37,20 @@ fn target_of(word: &[u8]) -> Option<Target>
     Some(Target::Service(name))
 }
 
-// The event directory that a word of the command line names: NAME is a free one, NAME/event that of a service. BadName where it names none.
+// The event directory that a word of the command line names: NAME is a free one, NAME/event that of
+// a service. BadName where it names none.
 fn read_target(word: &str) -> Result<Target, ToolFault> {
     target_of(word.as_bytes()).ok_or(ToolFault::Usage(Misuse::BadName))
 }
 
-// The name that `mkfifodir` gives to a new event directory, from the word of the command line; BadName where that is no name.
+// The name that `mkfifodir` gives to a new event directory, from the word of the command line;
+// BadName where that is no name.
 fn name_of(word: &str) -> Result<Name, ToolFault> {
     Name::new(word.as_bytes()).ok_or(ToolFault::Usage(Misuse::BadName))
 }
 
-// The pattern, whose bytes have to be printable ones or spaces: a newline in it would begin another request.
+// The pattern, whose bytes have to be printable ones or spaces: a newline in it would begin another
+// request.
 fn read_pattern(word: &str) -> Result<&str, ToolFault>
     ensures same { IfOk result (λ pattern. pattern.now ≡ word.now) }
     ensures printable { IfOk result (λ pattern. All IsPrintable pattern.now) }
@@ -117,8 +121,8 @@ pub fn run_ftrig_notify<R: Net + Clock>(
     Ok(0)
 }
 
-/// Waits until the letters of an event directory match a pattern, and prints the letter that made them match. The status is 1 where too many
-/// letters came without a match. Page `s6-ftrig-wait`.
+/// Waits until the letters of an event directory match a pattern, and prints the letter that made
+/// them match. The status is 1 where too many letters came without a match. Page `s6-ftrig-wait`.
 pub fn run_ftrig_wait<R: Net + Clock, W: Write>(
     rt: &R,
     alloc: Global,
@@ -137,18 +141,18 @@ pub fn run_ftrig_wait<R: Net + Clock, W: Write>(
     let mut patience = Patience::of(None);
     let asked = ask_within(rt, alloc, socket, request.as_slice(), &mut patience)?;
     // Any other answer is none that a server gives to this request.
-    let (mut connection, Answer::Subscription) = asked else {
+    let (mut connection, ServerAnswer::Subscription) = asked else {
         return Err(ToolFault::Socket);
     };
     match connection.answer()? {
-        Answer::Matched(letter) => {
+        ServerAnswer::Matched(letter) => {
             if output.write_all(&[letter, b'\n']).is_err() || output.flush().is_err() {
                 return Err(ToolFault::Write);
             }
             Ok(0)
         }
         // Too many letters came without a match.
-        Answer::Overlong => Ok(1),
+        ServerAnswer::Overlong => Ok(1),
         _ => Err(ToolFault::Socket),
     }
 }

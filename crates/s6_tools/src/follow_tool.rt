@@ -1,4 +1,5 @@
-//! `follow`, which prints letters (what happened to a service, as `u` for up) as they come, and `record`, which has the server write its record.
+//! `follow`, which prints letters (what happened to a service, as `u` for up) as they come, and
+//! `record`, which has the server write its record.
 use crate::connection::{ToolConnection, ask_server, await_room};
 use crate::followed_letter::{FollowedLetter, letter_line, letter_of};
 use crate::list_command::{ListCommand, compile_list, is_among};
@@ -12,9 +13,9 @@ use std::io::Write;
 use std::net::Net;
 use std::time::{Clock, Instant};
 
-/// Prints each letter of each service, or of the services named, as it comes, until the connection ends: then the fault is `TreeEnded`, or `Ended`
-/// where a server is there still. The tool
-/// is this program's own, not one of s6; for the letters see page `s6-supervise`, "Events".
+/// Prints each letter of each service, or of the services named, as it comes, until the connection
+/// ends: then the fault is `TreeEnded`, or `Ended` where a server is there still. The tool is this
+/// program's own, not one of s6; for the letters see page `s6-supervise`, "Events".
 pub fn run_follow<R: Net + Clock, W: Write>(
     rt: &R,
     alloc: Global,
@@ -39,8 +40,8 @@ pub fn run_follow<R: Net + Clock, W: Write>(
     Ok(0)
 }
 
-// A connection that is told the letters, and the time of day at which the tree's clock was 0, in milliseconds since 1970. Where the server
-// is busy, it asks again without end.
+// A connection that is told the letters, and the time of day at which the tree's clock was 0, in
+// milliseconds since 1970. Where the server is busy, it asks again without end.
 fn follow<R: Net + Clock>(
     rt: &R,
     alloc: Global,
@@ -60,8 +61,8 @@ fn follow<R: Net + Clock>(
     Err(ToolFault::Busy)
 }
 
-// Asks once, with no further try, to be told the letters, on a new connection. Returns that connection, and the time of day at which the
-// tree's clock was 0, in milliseconds since 1970.
+// Asks once, with no further try, to be told the letters, on a new connection. Returns that
+// connection, and the time of day at which the tree's clock was 0, in milliseconds since 1970.
 fn follow_once<R: Net>(
     rt: &R,
     alloc: Global,
@@ -76,7 +77,8 @@ fn follow_once<R: Net>(
     Ok((connection, start))
 }
 
-// The fault at the end of what is followed: where the connection has ended and no server is there any more, the tree has ended too.
+// The fault at the end of what is followed: where the connection has ended and no server is there
+// any more, the tree has ended too.
 fn fault_at_end<R: Net>(rt: &R, alloc: Global, socket: &str, fault: ToolFault) -> ToolFault {
     match fault {
         ToolFault::Ended => match ToolConnection::open(rt, alloc, socket, None) {
@@ -87,7 +89,8 @@ fn fault_at_end<R: Net>(rt: &R, alloc: Global, socket: &str, fault: ToolFault) -
     }
 }
 
-// Prints a letter in one write, if its service is asked for. `start` is the time of day at which the tree's clock was 0.
+// Prints a letter in one write, if its service is asked for. `start` is the time of day at which
+// the tree's clock was 0.
 fn print_letter<W: Write>(
     alloc: Global,
     letter: &FollowedLetter,
@@ -109,7 +112,8 @@ fn print_letter<W: Write>(
     Ok(())
 }
 
-/// Has the run so far recorded, and prints how many steps the record has then. The tool is this program's own, not one of s6.
+/// Has the run so far recorded, and prints how many steps the record has then. The tool is this
+/// program's own, not one of s6.
 pub fn run_record<R: Net + Clock, W: Write>(
     rt: &R,
     alloc: Global,

@@ -9,7 +9,8 @@ use crate::words::{is_word, word_or_none};
 use s6_events::Name;
 use std::alloc::{AllocError, Global};
 
-/// A letter of a service: what its supervisor writes to its event directory (`s`, `u`, `U`, `d`, `D`, `O` or `x`).
+/// A letter of a service: what its supervisor writes to its event directory (`s`, `u`, `U`, `d`,
+/// `D`, `O` or `x`).
 #[derive(Clone, Copy, Debug, PartialEq, Eq)]
 pub struct FollowedLetter {
     /// The tree's clock when it was told, in milliseconds.
@@ -20,7 +21,8 @@ pub struct FollowedLetter {
     pub letter: u8,
 }
 
-/// The letter of a line `e AT SERIAL NAME LETTER`, without its newline; None for any other line. The words are counted from 0.
+/// The letter of a line `e AT SERIAL NAME LETTER`, without its newline; None for any other line.
+/// The words are counted from 0.
 pub fn letter_of(line: &[u8]) -> Option<FollowedLetter> {
     if !is_word(word_or_none(line, 0), b"e") {
         return None;
@@ -53,7 +55,8 @@ fn letter_word(letter: u8) -> &'static [u8]
     }
 }
 
-// Adds the line of a letter for people: the time of day, the name of the service, the letter, and its word.
+// Adds the line of a letter for people: the time of day, the name of the service, the letter, and
+// its word.
 fn push_plain(text: &mut Vec<u8>, day: &[u8], letter: &FollowedLetter) -> Result<(), AllocError>
     ensures { OnOk result (text.new.items ≡ text.old.items ++ plain_letter day.now letter.now) }
 {
@@ -74,7 +77,8 @@ fn push_text(text: &mut Vec<u8>, key: &[u8], word: &[u8]) -> Result<(), AllocErr
     push_quoted(text, word)
 }
 
-// Adds the first members of the object: the time of day, the tree's clock then, and the serial of the service.
+// Adds the first members of the object: the time of day, the tree's clock then, and the serial of
+// the service.
 fn push_json_head(text: &mut Vec<u8>, day: &[u8], letter: &FollowedLetter) -> Result<(), AllocError>
     ensures { OnOk result (text.new.items ≡ text.old.items ++ json_head day.now letter.now) }
 {
@@ -84,7 +88,8 @@ fn push_json_head(text: &mut Vec<u8>, day: &[u8], letter: &FollowedLetter) -> Re
     push_member(text, b"serial", Some(letter.serial))
 }
 
-// Adds the other members of the object: the name of the service, the letter, and what it says in a word.
+// Adds the other members of the object: the name of the service, the letter, and what it says in a
+// word.
 fn push_json_tail(text: &mut Vec<u8>, letter: &FollowedLetter) -> Result<(), AllocError>
     ensures { OnOk result (text.new.items ≡ text.old.items ++ json_tail letter.now) }
 {

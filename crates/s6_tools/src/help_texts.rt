@@ -1,4 +1,5 @@
-//! What `TOOL --help` prints, for the tools about services. tools/manual.py makes docs/man and docs/completion from these texts.
+//! What `TOOL --help` prints, for the tools about services. tools/manual.py makes docs/man and
+//! docs/completion from these texts.
 use crate::help_waits::{FTRIG_NOTIFY, FTRIG_WAIT, MKFIFODIR, PERMAFAILON, SVLISTEN, SVWAIT};
 use crate::tool::Tool;
 

@@ -1,4 +1,5 @@
-//! What `TOOL --help` prints, for the tools that wait and those about event directories, and for `permafailon`.
+//! What `TOOL --help` prints, for the tools that wait and those about event directories, and for
+//! `permafailon`.
 
 /// What `svwait --help` prints.
 pub const SVWAIT: &str = "usage: s6_tree svwait SOCKET [-u | -U | -d | -D] [-a | -o] [-t MS] NAME..

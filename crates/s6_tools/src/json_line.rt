@@ -1,4 +1,5 @@
-//! The services as lines of JSON, one object a line. A directory that the last scan could not read (unread) has the same members, most of them null.
+//! The services as lines of JSON, one object a line. A directory that the last scan could not read
+//! (unread) has the same members, most of them null.
 ghost use Rattle.std.specs.Prelude.{◌≡◌, ◌++◌, ◌∷◌, IfOk, OnOk, option_map};
 ghost use Rattle.std.specs.List.{flat_map};
 ghost use Rattle.s6_tools.specs.JsonLines.{truth_text, number_text, key_text, quoted, truth_member, number_member, exit_code, signal_number, head_text, truths_text, run_text, ages_text, word_text, times_text, end_text, service_line, unread_head, null_truths_text, null_run_text, null_ages_text, null_times_text, unread_line, json_line};
@@ -10,8 +11,8 @@ use s6_script::push_number;
 use std::alloc::{AllocError, Global};
 use supervise_core::Row;
 
-// The exit code with which a service's last run ended; None where a signal killed it, while the service is up, and before any run has
-// ended.
+// The exit code with which a service's last run ended; None where a signal killed it, while the
+// service is up, and before any run has ended.
 fn exit_code(exit: Option<Exit>) -> Option<u64>
     ensures { result ≡ exit_code exit }
 {
@@ -21,8 +22,8 @@ fn exit_code(exit: Option<Exit>) -> Option<u64>
     }
 }
 
-// The number of the signal that killed a service's last run; None where it ended with a code, while the service is up, and before any run
-// has ended.
+// The number of the signal that killed a service's last run; None where it ended with a code, while
+// the service is up, and before any run has ended.
 fn signal_number(exit: Option<Exit>) -> Option<u64>
     ensures { result ≡ signal_number exit }
 {
@@ -32,7 +33,8 @@ fn signal_number(exit: Option<Exit>) -> Option<u64>
     }
 }
 
-// The process number of a service's run in 64 bits, as `push_member` takes numbers; None where there is no process.
+// The process number of a service's run in 64 bits, as `push_member` takes numbers; None where
+// there is no process.
 fn pid_of(pid: Option<u32>) -> Option<u64>
     ensures { result ≡ pid }
 {
@@ -150,8 +152,8 @@ fn push_end(text: &mut Vec<u8>, fault: Option<&ToldWord>) -> Result<(), AllocErr
     text.extend_from_slice(b"}\n")
 }
 
-// Adds the line of a service, one object: its name, serial and state, what is true or false of it, its run, its times, and at the end null for the
-// fault, since its directory could be read.
+// Adds the line of a service, one object: its name, serial and state, what is true or false of it,
+// its run, its times, and at the end null for the fault, since its directory could be read.
 #[tactic(auto, unfolding(crate::specs::JsonLines::service_line))]
 fn push_service_line(text: &mut Vec<u8>, service: &ListedService) -> Result<(), AllocError>
     ensures { OnOk result (text.new.items ≡ text.old.items ++ service_line service.now) }
@@ -164,7 +166,8 @@ fn push_service_line(text: &mut Vec<u8>, service: &ListedService) -> Result<(), 
     push_end(text, None)
 }
 
-// Adds the first three members of the object of a directory that could not be read: it has no serial, and its state is `unread`.
+// Adds the first three members of the object of a directory that could not be read: it has no
+// serial, and its state is `unread`.
 fn push_unread_head(text: &mut Vec<u8>, name: &Name) -> Result<(), AllocError>
     ensures { OnOk result (text.new.items ≡ text.old.items ++ unread_head name.now) }
 {
@@ -212,8 +215,9 @@ fn push_null_times(text: &mut Vec<u8>) -> Result<(), AllocError>
     push_member(text, b"since", None)
 }
 
-// Adds the line of a directory that could not be read. It has the members of a service's line, in their order: the name, no serial, the state
-// `unread`, null for what is true or false of a service, for its run and for its times, and at the end the fault.
+// Adds the line of a directory that could not be read. It has the members of a service's line, in
+// their order: the name, no serial, the state `unread`, null for what is true or false of a
+// service, for its run and for its times, and at the end the fault.
 #[tactic(auto, unfolding(crate::specs::JsonLines::unread_line))]
 fn push_unread_line(text: &mut Vec<u8>, name: &Name, fault: &ToldWord) -> Result<(), AllocError>
     ensures { OnOk result (text.new.items ≡ text.old.items ++ unread_line name.now fault.now) }
@@ -226,7 +230,8 @@ fn push_unread_line(text: &mut Vec<u8>, name: &Name, fault: &ToldWord) -> Result
     push_end(text, Some(fault))
 }
 
-// Adds the line of an entry, one object of JSON: that of a service, or of a directory that the last scan could not read.
+// Adds the line of an entry, one object of JSON: that of a service, or of a directory that the last
+// scan could not read.
 fn push_json_line(text: &mut Vec<u8>, entry: &ListEntry) -> Result<(), AllocError>
     ensures { OnOk result (text.new.items ≡ text.old.items ++ json_line entry.now) }
 {

@@ -1,4 +1,5 @@
-//! `svc`, which sends letters to a service, as `u` to start it, and `svscanctl`, which sends them to the supervisor of the scan directory.
+//! `svc`, which sends letters to a service, as `u` to start it, and `svscanctl`, which sends them
+//! to the supervisor of the scan directory.
 use crate::answer::expect_done;
 use crate::connection::ask_server;
 use crate::request::{scan_request, svc_request};
@@ -23,7 +24,8 @@ pub fn run_svc<R: Net + Clock>(
     Ok(0)
 }
 
-/// Tells the supervisor of the scan directory what to do, letter by letter; the first refusal ends it. Page `s6-svscanctl`.
+/// Tells the supervisor of the scan directory what to do, letter by letter; the first refusal ends
+/// it. Page `s6-svscanctl`.
 pub fn run_svscanctl<R: Net + Clock>(
     rt: &R,
     alloc: Global,

@@ -1,5 +1,5 @@
-//! The clients of a running tree. Each turns its words into requests, sends them over the tree's socket, and ends with the status that the
-//! answer calls for.
+//! The clients of a running tree. Each turns its words into requests, sends them over the tree's
+//! socket, and ends with the status that the answer calls for.
 #![tactic(auto)]
 
 mod age;
@@ -34,7 +34,7 @@ mod wait_tools;
 mod words;
 mod wrong_word;
 
-pub use answer::{Answer, Outcome, read_answer};
+pub use answer::{Outcome, ServerAnswer, read_answer};
 pub use followed_letter::{FollowedLetter, letter_line, letter_of};
 pub use help_texts::help_of;
 pub use json_line::json_lines;
@@ -44,7 +44,7 @@ pub use sentences::{help_words, see_words};
 pub use service_row::row_of;
 pub use status_line::svstat_line;
 pub use table::table_of;
-pub use told::{Told, add_escaped, add_named};
+pub use told::{FaultText, add_escaped, add_named};
 pub use told_word::ToldWord;
 pub use tool::{Tool, run_client, tool_named};
 pub use tool_fault::ToolFault;

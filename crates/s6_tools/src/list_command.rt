@@ -1,4 +1,5 @@
-//! The words of `list` and `follow`, and which entries they ask for: an entry is a service, or a directory that the last scan could not read.
+//! The words of `list` and `follow`, and which entries they ask for: an entry is a service, or a
+//! directory that the last scan could not read.
 ghost use Rattle.std.specs.Prelude.{◌≡◌, filter};
 ghost use Rattle.s6_tools.specs.Listing.{is_among, is_asked, is_there, are_there};
 
@@ -8,16 +9,16 @@ use crate::tool_fault::ToolFault;
 use s6_events::Name;
 use std::alloc::Global;
 
-/// What `list` or `follow` is asked for: the services of these names, or all where there is no name; and whether lines are to be objects of
-/// JSON.
+/// What `list` or `follow` is asked for: the services of these names, or all where there is no
+/// name; and whether lines are to be objects of JSON.
 #[derive(Debug, Drop)]
 pub struct ListCommand {
     pub is_json: bool,
     pub names: Vec<Name>,
 }
 
-/// Reads the words behind `list` or `follow`: options and names in any order. A word that begins with `-` is an option; behind `--` each
-/// word is a name.
+/// Reads the words behind `list` or `follow`: options and names in any order. A word that begins
+/// with `-` is an option; behind `--` each word is a name.
 pub fn compile_list(alloc: Global, words: &[&str]) -> Result<ListCommand, ToolFault> {
     let mut command = ListCommand {
         is_json: false,
@@ -37,8 +38,8 @@ pub fn compile_list(alloc: Global, words: &[&str]) -> Result<ListCommand, ToolFa
 }
 
 impl ListCommand {
-    // Takes a word that stands before any `--`: the option `--json`, or the name of a service. Unknown for any other option, BadName where
-    // it is no name.
+    // Takes a word that stands before any `--`: the option `--json`, or the name of a service.
+    // Unknown for any other option, BadName where it is no name.
     fn read_word(&mut self, word: &str) -> Result<(), ToolFault> {
         if word == "--json" {
             self.is_json = true;
@@ -50,7 +51,8 @@ impl ListCommand {
         self.add_name(word)
     }
 
-    // Adds a word to the names of the services that are asked for; BadName where it is no name, NoMemory where memory is refused.
+    // Adds a word to the names of the services that are asked for; BadName where it is no name,
+    // NoMemory where memory is refused.
     fn add_name(&mut self, word: &str) -> Result<(), ToolFault> {
         let name = Name::new(word.as_bytes()).ok_or(ToolFault::Usage(Misuse::BadName))?;
         self.names.push(name).map_err(|_| ToolFault::NoMemory)

@@ -61,7 +61,8 @@ fn behind_word(line: &[u8]) -> &[u8]
     }
 }
 
-/// What a line of the answer to `states` says; None for any other line. The line is without its newline.
+/// What a line of the answer to `states` says; None for any other line. The line is without its
+/// newline.
 pub fn entry_of(line: &[u8]) -> Option<ListEntry>
     ensures { IfSome result (λ entry. Tells entry line.now) }
 {
@@ -75,8 +76,9 @@ pub fn entry_of(line: &[u8]) -> Option<ListEntry>
     }
 }
 
-// The service that a line `state WORD SINCE row ..` tells of; None where what stands behind SINCE can't be read as a `row` line. The words are
-// counted from 0, and the time of day (`since`) is filled in later.
+// The service that a line `state WORD SINCE row ..` tells of; None where what stands behind SINCE
+// can't be read as a `row` line. The words are counted from 0, and the time of day (`since`) is
+// filled in later.
 fn service_of(line: &[u8]) -> Option<ListEntry>
     ensures { IfSome result (λ entry. Tells entry line.now) }
 {
@@ -90,7 +92,8 @@ fn service_of(line: &[u8]) -> Option<ListEntry>
     }))
 }
 
-// The directory that a line `unread NAME FAULT` tells of, which the last scan could not read; None where NAME is no name.
+// The directory that a line `unread NAME FAULT` tells of, which the last scan could not read; None
+// where NAME is no name.
 fn unread_of(line: &[u8]) -> Option<ListEntry>
     ensures { IfSome result (λ entry. Tells entry line.now) }
 {

@@ -1,4 +1,5 @@
-//! `list`, which prints entries: the states of services, and the directories that the last scan could not read.
+//! `list`, which prints entries: the states of services, and the directories that the last scan
+//! could not read.
 ghost use Rattle.std.specs.Prelude.{◌≡◌, IfOk};
 ghost use Rattle.s6_tools.specs.Listing.{listed_text};
 
@@ -16,9 +17,9 @@ use std::io::Write;
 use std::net::Net;
 use std::time::{Clock, Instant};
 
-/// Prints the services of the tree and the directories that the last scan could not read: all, or those of these names. Where one of the
-/// names has neither, the others are printed, and then the fault is `Refused`, for NoService. The tool is this program's own, not one of
-/// s6.
+/// Prints the services of the tree and the directories that the last scan could not read: all, or
+/// those of these names. Where one of the names has neither, the others are printed, and then the
+/// fault is `Refused`, for NoService. The tool is this program's own, not one of s6.
 pub fn run_list<R: Net + Clock, W: Write>(
     rt: &R,
     alloc: Global,
@@ -31,7 +32,8 @@ pub fn run_list<R: Net + Clock, W: Write>(
     print_entries(alloc, entries, &command, output)
 }
 
-// The states of all services. Where the server is busy, or ends the connection, it asks again, for ten seconds at most.
+// The states of all services. Where the server is busy, or ends the connection, it asks again, for
+// ten seconds at most.
 fn ask_states<R: Net + Clock>(
     rt: &R,
     alloc: Global,
@@ -68,15 +70,16 @@ pub fn ask_states_once<R: Net>(
     Ok(entries)
 }
 
-// Notes the time of day since which a service is up or down. `start` is that at which the tree's clock was 0, in milliseconds since 1970.
+// Notes the time of day since which a service is up or down. `start` is that at which the tree's
+// clock was 0, in milliseconds since 1970.
 fn note_since(entry: &mut ListEntry, start: u64) {
     if let ListEntry::Service(service) = entry {
         service.since = day_text_at(start, service.at);
     }
 }
 
-// The time of day when the tree's clock was `at`, as text; None without `at`, or past the year 9999. `start` is the time of day at which
-// that clock was 0, in milliseconds since 1970.
+// The time of day when the tree's clock was `at`, as text; None without `at`, or past the year
+// 9999. `start` is the time of day at which that clock was 0, in milliseconds since 1970.
 fn day_text_at(start: u64, at: Option<u64>) -> Option<ToldWord> {
     let text = day_second(start.saturating_add(at?))?;
     Some(ToldWord::new(text.as_bytes()))

@@ -1,5 +1,5 @@
-//! How long a tool goes on trying, where the server has no room for it or ends the connection. Between two tries it makes a pause, which grows.
-//! Times are in milliseconds.
+//! How long a tool goes on trying, where the server has no room for it or ends the connection.
+//! Between two tries it makes a pause, which grows. Times are in milliseconds.
 ghost use Rattle.std.specs.Prelude.{◌≡◌, is_none};
 ghost use Rattle.s6_tools.specs.Patience.{first_pause, time_of_wait, timeout_within, time_of_try, pause_of, after_pause, left_after};
 
@@ -12,11 +12,12 @@ pub const LONGEST_PAUSE: u64 = 500;
 /// How long a tool that doesn't wait for services goes on trying, in milliseconds.
 pub const TRY_TIME: u64 = 10_000;
 
-/// How long a try takes at least before it is given up, in milliseconds: a busy server says so within 250.
+/// How long a try takes at least before it is given up, in milliseconds: a busy server says so
+/// within 250.
 pub const SHORTEST_TRY: u64 = 500;
 
-/// How long a tool goes on trying where the server is busy. The first pause is 20 milliseconds; each is twice as long as the one before, up
-/// to half a second.
+/// How long a tool goes on trying where the server is busy. The first pause is 20 milliseconds;
+/// each is twice as long as the one before, up to half a second.
 #[derive(Clone, Copy, PartialEq, Eq, Debug)]
 pub struct Patience {
     /// The next pause, in milliseconds.
@@ -47,7 +48,8 @@ impl Patience {
         }
     }
 
-    /// The timeout that a wait gets now, in milliseconds: what is left, but at least 1; 0 means that it has none.
+    /// The timeout that a wait gets now, in milliseconds: what is left, but at least 1; 0 means
+    /// that it has none.
     pub fn timeout_left(&self) -> u32
         ensures { result ≡ timeout_within self.now.left }
     {
@@ -57,7 +59,8 @@ impl Patience {
         }
     }
 
-    /// How long the next try may take, in milliseconds: what is left, but at least half a second. None where there is no end.
+    /// How long the next try may take, in milliseconds: what is left, but at least half a second.
+    /// None where there is no end.
     pub fn time_of_try(&self) -> Option<u64>
         ensures { result ≡ time_of_try self.now.left }
     {
@@ -84,7 +87,8 @@ impl Patience {
         self.left == Some(0)
     }
 
-    /// How many milliseconds to wait before the next try, at most those that are left; None where no time is left.
+    /// How many milliseconds to wait before the next try, at most those that are left; None where
+    /// no time is left.
     pub fn next_pause(&mut self) -> Option<u64>
         ensures pause { result ≡ pause_of self.old }
         ensures after { self.new ≡ after_pause self.old }

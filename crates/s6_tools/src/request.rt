@@ -1,5 +1,5 @@
-//! The requests of the tools: most spell an act, as a line of a script does behind its moment and its actor.
-//! `scanctl a` and `follow` are no acts, and only the server knows them.
+//! The requests of the tools: most spell an act, as a line of a script does behind its moment and
+//! its actor. `scanctl a` and `follow` are no acts, and only the server knows them.
 ghost use Rattle.std.specs.Prelude.{◌≡◌, ◌++◌, ◌∷◌, [], IfOk, OnOk, false};
 ghost use Rattle.std.specs.List.{join_with_byte};
 ghost use Rattle.tree_core.specs.declared.input.Act.TheVariants.{Svc, Status, Permafailon, Wait, Subscribe, Send, MakeDir};
@@ -13,8 +13,8 @@ use std::alloc::{AllocError, Global};
 use svc_commands::{PermafailCommand, ScanLetter, SvcCommand, WaitCommand};
 use tree_core::{Message, Target};
 
-/// Fills `line` with a request and its newline, for a tool to send in one write. What it held is gone. Where memory is refused, the line
-/// isn't whole, and must not be sent.
+/// Fills `line` with a request and its newline, for a tool to send in one write. What it held is
+/// gone. Where memory is refused, the line isn't whole, and must not be sent.
 pub fn set_request_line(line: &mut Vec<u8>, request: &[u8]) -> Result<(), AllocError>
     ensures { OnOk result (line.new.items ≡ request_line request.now) }
 {
@@ -23,7 +23,8 @@ pub fn set_request_line(line: &mut Vec<u8>, request: &[u8]) -> Result<(), AllocE
     line.extend_from_slice(b"\n")
 }
 
-/// Whether a request may come twice without harm: it changes nothing, or waits, or has the record written.
+/// Whether a request may come twice without harm: it changes nothing, or waits, or has the record
+/// written.
 pub fn is_harmless(request: &[u8]) -> bool
     ensures { result ≡ is_harmless (word_in request.now 0) }
 {
@@ -142,8 +143,8 @@ pub fn subscribe_request(
     Ok(text)
 }
 
-/// The request `follow`, to be told letters as services give them: where there is one name, those of its service, else those of all
-/// services.
+/// The request `follow`, to be told letters as services give them: where there is one name, those
+/// of its service, else those of all services.
 pub fn follow_request(alloc: Global, names: &[Name]) -> Result<Vec<u8>, AllocError>
     ensures { IfOk result (λ text. text.items ≡ follow_request_of names.now) }
 {

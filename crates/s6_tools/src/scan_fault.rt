@@ -1,4 +1,5 @@
-//! Finds out whether there is no service of a name because the last scan could not read its directory.
+//! Finds out whether there is no service of a name because the last scan could not read its
+//! directory.
 ghost use Rattle.std.specs.Prelude.{◌≡◌, option_map};
 ghost use Rattle.s6_tools.specs.ListEntries.{why_unread};
 
@@ -11,8 +12,9 @@ use crate::words::is_word;
 use std::alloc::Global;
 use std::net::Net;
 
-/// The fault of a tool, more exactly: `Unread` where the server has no service of this name because the last scan could not read its
-/// directory. The server is asked once whether that is so. Where it doesn't answer, the fault stays as it is.
+/// The fault of a tool, more exactly: `Unread` where the server has no service of this name because
+/// the last scan could not read its directory. The server is asked once whether that is so. Where
+/// it doesn't answer, the fault stays as it is.
 pub fn with_scan_fault<R: Net>(
     rt: &R,
     alloc: Global,
@@ -34,8 +36,9 @@ fn is_no_service(fault: &ToolFault) -> bool {
     }
 }
 
-// Asks the server once for what fault the last scan could not read the directory of this name. None where `fault`, with which the tool
-// failed, isn't NoService, where no name is known, or where the server tells no such fault.
+// Asks the server once for what fault the last scan could not read the directory of this name. None
+// where `fault`, with which the tool failed, isn't NoService, where no name is known, or where the
+// server tells no such fault.
 fn ask_why_unread<R: Net>(
     rt: &R,
     alloc: Global,
@@ -47,7 +50,8 @@ fn ask_why_unread<R: Net>(
     if !is_no_service(fault) {
         return None;
     }
-    // What the server tells of all services, and of the directories that the last scan could not read.
+    // What the server tells of all services, and of the directories that the last scan could not
+    // read.
     let entries = ask_states_once(rt, alloc, socket, Some(TRY_TIME)).ok()?;
     for entry in entries.as_slice() {
         if let Some(why) = why_unread(entry, name) {

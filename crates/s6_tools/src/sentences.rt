@@ -18,8 +18,8 @@ fn number_complaint(tool: Tool) -> &'static str
     }
 }
 
-// What the second line about a fault says behind a word that should be a list and is none: of exits for `permafailon`, of fields for
-// `svstat`.
+// What the second line about a fault says behind a word that should be a list and is none: of exits
+// for `permafailon`, of fields for `svstat`.
 fn list_complaint(tool: Tool) -> &'static str
     ensures { result.now ≡ list_complaint tool }
 {
@@ -29,8 +29,8 @@ fn list_complaint(tool: Tool) -> &'static str
     }
 }
 
-// What the second line about a fault says behind a word that should be a name and is none; for `ftrig-notify` and `ftrig-wait` it should
-// name an event directory.
+// What the second line about a fault says behind a word that should be a name and is none; for
+// `ftrig-notify` and `ftrig-wait` it should name an event directory.
 fn name_complaint(tool: Tool) -> &'static str
     ensures { result.now ≡ name_complaint tool }
 {
@@ -91,7 +91,8 @@ fn form_of(tool: Tool) -> &'static str
     }
 }
 
-// How a list has to be written for this tool: one of exits for `permafailon`, one of fields for `svstat`.
+// How a list has to be written for this tool: one of exits for `permafailon`, one of fields for
+// `svstat`.
 fn list_form(tool: Tool) -> &'static str
     ensures { result.now ≡ list_form tool }
 {
@@ -103,8 +104,8 @@ fn list_form(tool: Tool) -> &'static str
     }
 }
 
-// How a name has to be written for this tool: for `ftrig-notify` and `ftrig-wait` that of an event directory, free or a service's, else a
-// plain name.
+// How a name has to be written for this tool: for `ftrig-notify` and `ftrig-wait` that of an event
+// directory, free or a service's, else a plain name.
 fn name_form(tool: Tool) -> &'static str
     ensures { result.now ≡ name_form tool }
 {
@@ -130,7 +131,8 @@ pub fn right_of(tool: Tool, misuse: Misuse) -> &'static str
     }
 }
 
-/// What the reason of a refusal says about the word that the request names; None where it is about no word.
+/// What the reason of a refusal says about the word that the request names; None where it is about
+/// no word.
 pub fn refusal_of_subject(reason: &[u8]) -> Option<&'static str>
     ensures { option_map (λ text. text.now) result ≡ refusal_of_subject reason.now }
 {

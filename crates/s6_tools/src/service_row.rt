@@ -1,4 +1,5 @@
-//! Reads a `row` line, the status of a service. Its words are counted from 0: `row`, the serial, the name, and then the fields.
+//! Reads a `row` line, the status of a service. Its words are counted from 0: `row`, the serial,
+//! the name, and then the fields.
 ghost use Rattle.std.specs.Prelude.{◌≡◌, ◌≤◌, IfSome};
 ghost use Rattle.s6_tools.specs.ServiceRows.{truth_of, number_of, number_in, truths_in, numbers_in, row_of, exit_in, sid_in};
 
@@ -45,7 +46,8 @@ fn truth_of(word: &[u8]) -> Option<bool>
     }
 }
 
-// The number that a word spells, up to `most`; no number where the word is -1. None for any other word.
+// The number that a word spells, up to `most`; no number where the word is -1. None for any other
+// word.
 fn number_of(word: &[u8], most: u32) -> Option<Option<u32>>
     ensures value { result ≡ number_of most word.now }
     ensures bound { IfSome result (λ number. IfSome number (λ n. n ≤ most)) }
@@ -59,15 +61,16 @@ fn number_of(word: &[u8], most: u32) -> Option<Option<u32>>
     }
 }
 
-// The number that a word of a `row` line spells, by its place, counted from 0; no number where the word is -1. None for any other word.
+// The number that a word of a `row` line spells, by its place, counted from 0; no number where the
+// word is -1. None for any other word.
 fn number_in(line: &[u8], place: usize) -> Option<Option<u32>>
     ensures { result ≡ number_in line.now place }
 {
     number_of(word_or_none(line, place), MOST_NUMBER)
 }
 
-// How a run ended, by the words 9 and 10 of a `row` line, the exit code and the signal: its code or its signal, or neither. None where both are
-// there, or one of them can't be read.
+// How a run ended, by the words 9 and 10 of a `row` line, the exit code and the signal: its code or
+// its signal, or neither. None where both are there, or one of them can't be read.
 fn exit_in(line: &[u8]) -> Option<Option<Exit>>
     ensures { result ≡ exit_in line.now }
 {
@@ -81,7 +84,8 @@ fn exit_in(line: &[u8]) -> Option<Option<Exit>>
     }
 }
 
-// The five fields of a `row` line that are true or false, its words 3 to 7, counted from 0; None where one of them is neither.
+// The five fields of a `row` line that are true or false, its words 3 to 7, counted from 0; None
+// where one of them is neither.
 fn truths_in(line: &[u8]) -> Option<Truths>
     ensures { result ≡ truths_in line.now }
 {
@@ -94,8 +98,8 @@ fn truths_in(line: &[u8]) -> Option<Truths>
     })
 }
 
-// The process number, the last exit and the two ages of a `row` line, its words 8 to 12, counted from 0; None where one of them can't be
-// read.
+// The process number, the last exit and the two ages of a `row` line, its words 8 to 12, counted
+// from 0; None where one of them can't be read.
 fn numbers_in(line: &[u8]) -> Option<Numbers>
     ensures { result ≡ numbers_in line.now }
 {
@@ -107,7 +111,8 @@ fn numbers_in(line: &[u8]) -> Option<Numbers>
     })
 }
 
-// The serial of the service of a `row` line, which is its second word; None where that is no number.
+// The serial of the service of a `row` line, which is its second word; None where that is no
+// number.
 fn sid_in(line: &[u8]) -> Option<Sid>
     ensures { result ≡ sid_in line.now }
 {
@@ -117,8 +122,9 @@ fn sid_in(line: &[u8]) -> Option<Sid>
     }
 }
 
-/// What a `row` line says of a service; None for any other line, and for one with a number over 4294967295. The line is without its
-/// newline. `truths` are the fields that are true or false, and `numbers` those that are numbers; `seconds_of` widens an age, if there is one.
+/// What a `row` line says of a service; None for any other line, and for one with a number over
+/// 4294967295. The line is without its newline. `truths` are the fields that are true or false, and
+/// `numbers` those that are numbers; `seconds_of` widens an age, if there is one.
 pub fn row_of(line: &[u8]) -> Option<Row>
     ensures { result ≡ row_of line.now }
 {
@@ -141,7 +147,8 @@ pub fn row_of(line: &[u8]) -> Option<Row>
     })
 }
 
-// An age in seconds, as a line spelled it, in the 64 bits that it has in a `Row`; None where there is none.
+// An age in seconds, as a line spelled it, in the 64 bits that it has in a `Row`; None where there
+// is none.
 fn seconds_of(number: Option<u32>) -> Option<u64>
     ensures { result ≡ number }
 {

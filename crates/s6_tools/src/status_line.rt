@@ -1,4 +1,5 @@
-//! The line of `svstat`: fields of a `row` reply, which is the server's line about the status of a service.
+//! The line of `svstat`: fields of a `row` reply, which is the server's line about the status of a
+//! service.
 ghost use Rattle.std.specs.Prelude.{◌≡◌, ◌∷◌, ◌++◌, IfOk, OnOk};
 ghost use Rattle.std.specs.List.{flat_map};
 ghost use Rattle.s6_tools.specs.StatusLine.{field_in, place_of, status_line};
@@ -7,7 +8,8 @@ use crate::words::word_or_none;
 use s6_events::Field;
 use std::alloc::{AllocError, Global};
 
-// Which word of a `row` reply a field is, counted from 0: the fields come after `row`, the serial and the name.
+// Which word of a `row` reply a field is, counted from 0: the fields come after `row`, the serial
+// and the name.
 fn place_of(field: Field) -> usize
     ensures { result ≡ place_of field }
 {
@@ -51,7 +53,8 @@ fn push_fields(line: &mut Vec<u8>, row: &[u8], fields: &[Field]) -> Result<(), A
     Ok(())
 }
 
-/// The line that `svstat` prints for a `row` reply, without its newline: these fields, with a space between each two. Page `s6-svstat`.
+/// The line that `svstat` prints for a `row` reply, without its newline: these fields, with a space
+/// between each two. Page `s6-svstat`.
 pub fn svstat_line(alloc: Global, reply: &[u8], fields: &[Field]) -> Result<Vec<u8>, AllocError>
     ensures { IfOk result (λ line. line.items ≡ status_line reply.now fields.now) }
 {

@@ -1,5 +1,6 @@
-//! `svstat`, which prints fields of a service's status, and `permafailon`, which tells whether a service fails for good.
-use crate::answer::Answer;
+//! `svstat`, which prints fields of a service's status, and `permafailon`, which tells whether a
+//! service fails for good.
+use crate::answer::ServerAnswer;
 use crate::connection::ask_server;
 use crate::request::{permafailon_request, status_request};
 use crate::status_line::svstat_line;
@@ -25,7 +26,7 @@ pub fn run_svstat<R: Net + Clock, W: Write>(
     let request = status_request(alloc, &command.name)?;
     let (connection, answer) = ask_server(rt, alloc, socket, request.as_slice())?;
     // Any other answer is none that a server gives to this request.
-    if !matches!(answer, Answer::Row) {
+    if !matches!(answer, ServerAnswer::Row) {
         return Err(ToolFault::Socket);
     }
     // The connection's last line is the answer, the row of the service.
@@ -48,8 +49,8 @@ pub fn run_permafailon<R: Net + Clock>(
     let request = permafailon_request(alloc, &command)?;
     let (_connection, answer) = ask_server(rt, alloc, socket, request.as_slice())?;
     match answer {
-        Answer::PermanentFailure(true) => Ok(PERMANENT_FAILURE),
-        Answer::PermanentFailure(false) => Ok(0),
+        ServerAnswer::PermanentFailure(true) => Ok(PERMANENT_FAILURE),
+        ServerAnswer::PermanentFailure(false) => Ok(0),
         // No server gives another answer to this request.
         _ => Err(ToolFault::Socket),
     }

@@ -1,4 +1,5 @@
-//! The services as a table. An entry, a line of it, is a service, or a directory that the last scan could not read (unread).
+//! The services as a table. An entry, a line of it, is a service, or a directory that the last scan
+//! could not read (unread).
 ghost use Rattle.std.specs.Prelude.{◌≡◌, ◌++◌, ◌∷◌, IfOk, OnOk, None, map, option_map, replicate, if◌then◌else◌};
 ghost use Rattle.std.specs.List.{flat_map};
 ghost use Rattle.s6_tools.specs.Tables.{heading, cell, service_cell, unread_cell, word_cell, number_cell, age_cell, exit_cell, wanted_cell, width_of, padded, heading_line, row_line, sized_column, padded_columns, table_text};
@@ -78,7 +79,8 @@ fn push_number_cell(text: &mut Vec<u8>, number: Option<u32>) -> Result<(), Alloc
     }
 }
 
-// Adds the cell of an age, which is told in its two largest units, as 3m12s; `-` where there is none.
+// Adds the cell of an age, which is told in its two largest units, as 3m12s; `-` where there is
+// none.
 fn push_age_cell(text: &mut Vec<u8>, seconds: Option<u64>) -> Result<(), AllocError>
     ensures { OnOk result (text.new.items ≡ text.old.items ++ age_cell seconds) }
 {
@@ -88,8 +90,8 @@ fn push_age_cell(text: &mut Vec<u8>, seconds: Option<u64>) -> Result<(), AllocEr
     }
 }
 
-// Adds the cell that tells how the last run of a service ended, as `code 1` or `signal 9`; `-` while the service is up, and before any run
-// has ended.
+// Adds the cell that tells how the last run of a service ended, as `code 1` or `signal 9`; `-`
+// while the service is up, and before any run has ended.
 fn push_exit_cell(text: &mut Vec<u8>, exit: Option<Exit>) -> Result<(), AllocError>
     ensures { OnOk result (text.new.items ≡ text.old.items ++ exit_cell exit) }
 {
@@ -106,7 +108,8 @@ fn push_exit_cell(text: &mut Vec<u8>, exit: Option<Exit>) -> Result<(), AllocErr
     }
 }
 
-// The cell of a service under WANTED: `up` where it is to be started again when it is down, else `down`.
+// The cell of a service under WANTED: `up` where it is to be started again when it is down, else
+// `down`.
 fn wanted_word(row: &Row) -> &'static [u8]
     ensures { result.now ≡ wanted_cell row.now.wanted_up }
 {
@@ -120,7 +123,8 @@ fn up_and_ready_for(row: &Row) -> Option<u64>
     if row.up { row.ready_for } else { None }
 }
 
-// Adds the cell of a word that may be unknown, as the time of day since which a service is up or down; then the cell is `-`.
+// Adds the cell of a word that may be unknown, as the time of day since which a service is up or
+// down; then the cell is `-`.
 fn push_word_cell(text: &mut Vec<u8>, word: Option<&ToldWord>) -> Result<(), AllocError>
     ensures { OnOk result (text.new.items
         ≡ text.old.items ++ word_cell (option_map (λ w. w.now) word.entry)) }
@@ -152,7 +156,8 @@ fn push_service_cell(
     }
 }
 
-// Adds the cell of a directory that could not be read: its state is `unread`, its fault stands under LAST-EXIT, and most cells are `-`.
+// Adds the cell of a directory that could not be read: its state is `unread`, its fault stands
+// under LAST-EXIT, and most cells are `-`.
 fn push_unread_cell(
     text: &mut Vec<u8>,
     name: &Name,
@@ -170,7 +175,8 @@ fn push_unread_cell(
     }
 }
 
-// Adds the text of an entry's cell in this column, with no spaces behind it. The entry is a service, or a directory that could not be read.
+// Adds the text of an entry's cell in this column, with no spaces behind it. The entry is a
+// service, or a directory that could not be read.
 fn push_cell(text: &mut Vec<u8>, entry: &ListEntry, column: Column) -> Result<(), AllocError>
     ensures { OnOk result (text.new.items ≡ text.old.items ++ cell entry.now column) }
 {
@@ -180,7 +186,8 @@ fn push_cell(text: &mut Vec<u8>, entry: &ListEntry, column: Column) -> Result<()
     }
 }
 
-// The text of an entry's cell in this column, alone and with no spaces behind it, so that its width can be seen.
+// The text of an entry's cell in this column, alone and with no spaces behind it, so that its width
+// can be seen.
 fn cell_of(alloc: Global, entry: &ListEntry, column: Column) -> Result<Vec<u8>, AllocError>
     ensures { IfOk result (λ text. text.items ≡ cell entry.now column) }
 {
@@ -200,7 +207,8 @@ fn width_of(alloc: Global, entries: &[ListEntry], column: Column) -> Result<usiz
     Ok(width)
 }
 
-// All columns but the last one, WANTED, each with the number of bytes of its widest cell, among the cells of these entries and its head.
+// All columns but the last one, WANTED, each with the number of bytes of its widest cell, among the
+// cells of these entries and its head.
 fn size_columns(alloc: Global, entries: &[ListEntry]) -> Result<Vec<SizedColumn>, AllocError>
     ensures { IfOk result
         (λ columns. columns.items ≡ map (sized_column entries.now) padded_columns) }
@@ -235,7 +243,8 @@ fn push_spaces(text: &mut Vec<u8>, count: usize) -> Result<(), AllocError>
     Ok(())
 }
 
-// Adds the cell of an entry in the column `sized`, then spaces up to the width of that column, and two more.
+// Adds the cell of an entry in the column `sized`, then spaces up to the width of that column, and
+// two more.
 fn push_padded_cell(
     alloc: Global,
     text: &mut Vec<u8>,
@@ -249,7 +258,8 @@ fn push_padded_cell(
     push_padded(text, cell.as_slice(), sized.width)
 }
 
-// Adds the first line of the table, the heads of all columns. `columns` are all but the last one, WANTED, which is written here.
+// Adds the first line of the table, the heads of all columns. `columns` are all but the last one,
+// WANTED, which is written here.
 fn push_heading_line(text: &mut Vec<u8>, columns: &[SizedColumn]) -> Result<(), AllocError>
     ensures { OnOk result (text.new.items ≡ text.old.items ++ heading_line columns.now) }
 {
@@ -259,7 +269,8 @@ fn push_heading_line(text: &mut Vec<u8>, columns: &[SizedColumn]) -> Result<(), 
     text.extend_from_slice(b"WANTED\n")
 }
 
-// Adds the line of one entry, its cells in all columns. `columns` are all but the last one, WANTED, behind which no spaces stand.
+// Adds the line of one entry, its cells in all columns. `columns` are all but the last one, WANTED,
+// behind which no spaces stand.
 fn push_entry_line(
     alloc: Global,
     text: &mut Vec<u8>,
@@ -275,7 +286,8 @@ fn push_entry_line(
     text.extend_from_slice(b"\n")
 }
 
-// Adds the line of each entry, below the heads. `columns` are all columns but the last one, WANTED, with their widths.
+// Adds the line of each entry, below the heads. `columns` are all columns but the last one, WANTED,
+// with their widths.
 fn push_entry_lines(
     alloc: Global,
     text: &mut Vec<u8>,

@@ -8,11 +8,16 @@ use arrayvec::{ArrayVec, CapacityError};
 /// The most bytes of a word that are told.
 const TOLD_BYTES: usize = 64;
 
-/// The text about a fault, in an array of fixed size, so that it takes no memory. The longest has some 700 bytes.
-pub type Told = ArrayVec<u8, 1024>;
+/// The text about a fault, in an array of fixed size, so that it takes no memory. The longest has
+/// some 700 bytes.
+pub type FaultText = ArrayVec<u8, 1024>;
 
 /// Adds a word between quotes; `unknown` where there is no word.
-pub fn add_named(told: &mut Told, unknown: &[u8], word: Option<&str>) -> Result<(), CapacityError>
+pub fn add_named(
+    told: &mut FaultText,
+    unknown: &[u8],
+    word: Option<&str>,
+) -> Result<(), CapacityError>
     ensures { OnOk result (told.new.items
         ≡ told.old.items ++ named unknown.now (option_map (λ w. w.now) word.entry)) }
 {
@@ -37,7 +42,7 @@ fn first_bytes(most: usize, bytes: &[u8]) -> &[u8]
 }
 
 /// Adds the first bytes of a word, at most `most`. Those that aren't printable are escaped.
-pub fn add_escaped(told: &mut Told, most: usize, bytes: &[u8]) -> Result<(), CapacityError>
+pub fn add_escaped(told: &mut FaultText, most: usize, bytes: &[u8]) -> Result<(), CapacityError>
     ensures { OnOk result (told.new.items ≡ told.old.items ++ escaped most bytes.now) }
 {
     let first = first_bytes(most, bytes);
@@ -45,7 +50,7 @@ pub fn add_escaped(told: &mut Told, most: usize, bytes: &[u8]) -> Result<(), Cap
 }
 
 // Adds all of these bytes; one that isn't printable is escaped, as `\x0a`.
-fn add_escaped_bytes(told: &mut Told, bytes: &[u8]) -> Result<(), CapacityError>
+fn add_escaped_bytes(told: &mut FaultText, bytes: &[u8]) -> Result<(), CapacityError>
     ensures { OnOk result (told.new.items ≡ told.old.items ++ flat_map escaped_byte bytes.now) }
 {
     for byte in bytes {
@@ -63,8 +68,9 @@ fn hex_digit(digit: u8) -> u8
     if digit < 10 { b'0' + digit } else { 87 + digit }
 }
 
-// Adds a byte as it is where it is printable or a space, else escaped: `\x` and two hexadecimal digits.
-fn add_escaped_byte(told: &mut Told, byte: u8) -> Result<(), CapacityError>
+// Adds a byte as it is where it is printable or a space, else escaped: `\x` and two hexadecimal
+// digits.
+fn add_escaped_byte(told: &mut FaultText, byte: u8) -> Result<(), CapacityError>
     ensures { OnOk result (told.new.items ≡ told.old.items ++ escaped_byte byte) }
 {
     if matches!(byte, 32..=126) {

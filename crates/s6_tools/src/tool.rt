@@ -49,7 +49,7 @@ pub enum Tool {
     Permafailon,
 }
 
-const ALL: [Tool; 12] = [
+const ALL_TOOLS: [Tool; 12] = [
     Tool::Svc,
     Tool::Svstat,
     Tool::List,
@@ -88,11 +88,12 @@ impl Tool {
 
 /// The tool of this name; None where there is no such tool.
 pub fn tool_named(name: &str) -> Option<Tool> {
-    ALL.iter().copied().find(|tool| tool.name() == name)
+    ALL_TOOLS.iter().copied().find(|tool| tool.name() == name)
 }
 
-/// Runs a client, and returns its exit status. `words` are those behind its name: the path of the socket first, or a word that asks for
-/// help. Where the client could not do what it was asked for, it writes two lines on `errors` in one write: why, and what would be right.
+/// Runs a client, and returns its exit status. `words` are those behind its name: the path of the
+/// socket first, or a word that asks for help. Where the client could not do what it was asked for,
+/// it writes two lines on `errors` in one write: why, and what would be right.
 pub fn run_client<R: Net + Processes + Clock, W: Write, E: Write>(
     rt: &R,
     alloc: Global,
@@ -109,7 +110,8 @@ pub fn run_client<R: Net + Processes + Clock, W: Write, E: Write>(
                 // Not even a socket was named: the fault is `Missing`.
                 [] => ("", words),
             };
-            // A refusal for want of a service is told more exactly where the last scan could not read the service's directory.
+            // A refusal for want of a service is told more exactly where the last scan could not
+            // read the service's directory.
             let fault = with_scan_fault(rt, alloc, socket, subject_of(tool, further), fault);
             tell_fault(tool, socket, further, &fault, errors)
         }
@@ -125,7 +127,8 @@ fn asks_help(words: &[&str]) -> bool {
     }
 }
 
-// Prints the help text of a tool. Returns the exit status 0; the fault is Write where the text can't be written.
+// Prints the help text of a tool. Returns the exit status 0; the fault is Write where the text
+// can't be written.
 fn print_help<W: Write>(tool: Tool, output: &mut W) -> Result<u8, ToolFault> {
     let text = help_of(tool).as_bytes();
     if output.write_all(text).is_err() || output.flush().is_err() {
@@ -134,8 +137,9 @@ fn print_help<W: Write>(tool: Tool, output: &mut W) -> Result<u8, ToolFault> {
     Ok(0)
 }
 
-// Does what the words ask of a tool, or prints its help text, and returns its exit status. `words` are those behind the tool's name: the
-// path of the socket first, or a word that asks for help; Missing where there is none.
+// Does what the words ask of a tool, or prints its help text, and returns its exit status. `words`
+// are those behind the tool's name: the path of the socket first, or a word that asks for help;
+// Missing where there is none.
 fn run<R: Net + Processes + Clock, W: Write>(
     rt: &R,
     alloc: Global,

@@ -16,10 +16,10 @@ pub enum ToolFault {
     Usage(Misuse),
     /// The server refused the request, for this reason. Status 1; for `svwait` and `svlisten` 111.
     Refused(ToldWord),
-    /// The server refused the request as NoService, since the last scan could not read the service's directory: this is the word for why.
-    /// The status is that of a refusal.
+    /// The server refused the request as NoService, since the last scan could not read the
+    /// service's directory: this is the word for why. The status is that of a refusal.
     Unread(ToldWord),
-    /// The server had no seat for one more connection, however often it was tried. Status 111.
+    /// The server had no slot for one more connection, however often it was tried. Status 111.
     Busy,
     /// There is no server at the path. Status 111.
     NoServer,
@@ -31,7 +31,8 @@ pub enum ToolFault {
     Socket,
     /// The connection ended before the answer to a request that may come twice. Status 111.
     Ended,
-    /// The connection ended before the answer to a request that changes something: nobody can know whether it was carried out. Status 111.
+    /// The connection ended before the answer to a request that changes something: nobody can know
+    /// whether it was carried out. Status 111.
     Unanswered,
     /// No answer came in time. Status 111.
     NoAnswer,
@@ -46,8 +47,8 @@ pub enum ToolFault {
 }
 
 impl ToolFault {
-    /// Whether the same may be asked again: the server had no room and did nothing, or the connection ended before the answer to a request that may
-    /// come twice.
+    /// Whether the same may be asked again: the server had no room and did nothing, or the
+    /// connection ended before the answer to a request that may come twice.
     pub fn may_be_retried(&self) -> bool
         ensures { result ≡ may_be_retried self.now }
     {
@@ -57,7 +58,8 @@ impl ToolFault {
         }
     }
 
-    /// The fault of a request: where the connection ended before the answer, and the request may not come twice, that is told.
+    /// The fault of a request: where the connection ended before the answer, and the request may
+    /// not come twice, that is told.
     pub fn of_request(self, is_harmless: bool) -> ToolFault
         ensures { result ≡ of_request is_harmless self }
     {

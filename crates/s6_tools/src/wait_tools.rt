@@ -1,8 +1,9 @@
-//! `svwait` and `svlisten`, which wait for services: the server makes a waiter, and tells when it is released, with the outcome.
+//! `svwait` and `svlisten`, which wait for services: the server makes a waiter, and tells when it
+//! is released, with the outcome.
 ghost use Rattle.std.specs.Prelude.{◌≡◌};
 ghost use Rattle.s6_tools.specs.Endings.{status_of_outcome};
 
-use crate::answer::{Answer, Outcome};
+use crate::answer::{Outcome, ServerAnswer};
 use crate::connection::{ToolConnection, ask_once, await_room, millis_since};
 use crate::misuse::Misuse;
 use crate::patience::Patience;
@@ -26,7 +27,8 @@ fn status_of(outcome: Outcome) -> u8
     }
 }
 
-/// How long after its timeout the verdict of a wait may still come, in milliseconds; then the server counts as one that doesn't answer.
+/// How long after its timeout the verdict of a wait may still come, in milliseconds; then the
+/// server counts as one that doesn't answer.
 const VERDICT_TIME: u64 = 250;
 
 // Within how many milliseconds the verdict of a wait comes; None where the wait has no end.
@@ -34,8 +36,8 @@ fn time_of_verdict(patience: &Patience) -> Option<u64> {
     patience.left.map(|left| left.saturating_add(VERDICT_TIME))
 }
 
-// Has the server make a waiter, and returns once its reply has come. While the server has no room for it, it is asked again, with what is left of
-// the timeout. None where the time was up before.
+// Has the server make a waiter, and returns once its reply has come. While the server has no room
+// for it, it is asked again, with what is left of the timeout. None where the time was up before.
 fn subscribe<R: Net + Clock>(
     rt: &R,
     alloc: Global,
@@ -49,7 +51,7 @@ fn subscribe<R: Net + Clock>(
         let request = wait_request(alloc, command)?;
         let at_most = time_of_verdict(patience);
         match ask_once(rt, alloc, socket, request.as_slice(), at_most) {
-            Ok((connection, Answer::Waiter)) => {
+            Ok((connection, ServerAnswer::Waiter)) => {
                 patience.pass(millis_since(rt, begun));
                 return Ok(Some(connection));
             }
@@ -69,8 +71,9 @@ fn subscribe<R: Net + Clock>(
     Ok(None)
 }
 
-// Waits until the waiter of this connection is released, for as long as the patience lasts. Returns the outcome; `Ended` where the connection ends
-// before, `Socket` where another line comes. A server that doesn't tell the verdict in time counts as one whose wait timed out.
+// Waits until the waiter of this connection is released, for as long as the patience lasts. Returns
+// the outcome; `Ended` where the connection ends before, `Socket` where another line comes. A
+// server that doesn't tell the verdict in time counts as one whose wait timed out.
 fn await_release<R: Clock>(
     rt: &R,
     connection: &mut ToolConnection,
@@ -81,7 +84,7 @@ fn await_release<R: Clock>(
     let answer = connection.answer();
     patience.pass(millis_since(rt, begun));
     match answer {
-        Ok(Answer::Released(outcome)) => Ok(outcome),
+        Ok(ServerAnswer::Released(outcome)) => Ok(outcome),
         Ok(_) => Err(ToolFault::Socket),
         Err(ToolFault::NoAnswer) => Ok(Outcome::TimedOut),
         Err(fault) => Err(fault),
@@ -102,8 +105,8 @@ fn wait_once<R: Net + Clock>(
     }
 }
 
-/// Waits for services. While the server has no room for the wait, or where the connection ends, it asks again until the timeout is over. Page
-/// `s6-svwait`.
+/// Waits for services. While the server has no room for the wait, or where the connection ends, it
+/// asks again until the timeout is over. Page `s6-svwait`.
 pub fn run_svwait<R: Net + Clock>(
     rt: &R,
     alloc: Global,
@@ -130,8 +133,8 @@ pub fn run_svwait<R: Net + Clock>(
     Ok(status_of(Outcome::TimedOut))
 }
 
-/// Makes a waiter, starts a program, and waits for services. Where the time was up before the server had room for the waiter, no program is
-/// started. Page `s6-svlisten`.
+/// Makes a waiter, starts a program, and waits for services. Where the time was up before the
+/// server had room for the waiter, no program is started. Page `s6-svlisten`.
 pub fn run_svlisten<R: Net + Processes + Clock>(
     rt: &R,
     alloc: Global,

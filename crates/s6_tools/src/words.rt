@@ -11,7 +11,8 @@ pub fn is_word(word: &[u8], text: &[u8]) -> bool
     word == text
 }
 
-/// The word of a line at a place, counted from 0; None where the line has no such word. Between each two words is one space.
+/// The word of a line at a place, counted from 0; None where the line has no such word. Between
+/// each two words is one space.
 pub fn word_at(line: &[u8], place: usize) -> Option<&[u8]>
     ensures { option_map (λ w. w.now) result
         ≡ slice_get (slice_split (λ b. b == 32) line.entry.now) place }

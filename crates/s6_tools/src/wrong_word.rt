@@ -25,7 +25,8 @@ pub enum Wrong {
     PlainNoNumber,
     /// A word that is neither an option nor a name.
     NoName,
-    /// A word that is neither an option nor a name, and has no comma: a list of the fields of `svstat` has one.
+    /// A word that is neither an option nor a name, and has no comma: a list of the fields of
+    /// `svstat` has one.
     NoSingleName,
     /// A word that is no number.
     NoNumber,
@@ -71,15 +72,16 @@ fn is_dashed(word: &[u8]) -> bool
     word.first() == Some(&b'-')
 }
 
-// Whether a byte is one of these. `letters` are those that a tool takes behind a dash, or the bytes of a word in which a comma is looked
-// for.
+// Whether a byte is one of these. `letters` are those that a tool takes behind a dash, or the bytes
+// of a word in which a comma is looked for.
 fn has_byte(letters: &[u8], byte: u8) -> bool
     ensures { result ≡ list_any (λ l. l == byte) letters.now }
 {
     letters.iter().any(|letter| *letter == byte)
 }
 
-// Whether one of the letters behind the dash is none of these. The letters behind `valued` are not looked at: they are the value of that option.
+// Whether one of the letters behind the dash is none of these. The letters behind `valued` are not
+// looked at: they are the value of that option.
 fn has_strange_letter(letters: &[u8], valued: u8, word: &[u8]) -> bool
     ensures { result ≡ has_strange_letter letters.now valued word.now }
 {
@@ -89,7 +91,8 @@ fn has_strange_letter(letters: &[u8], valued: u8, word: &[u8]) -> bool
         .any(|byte| !has_byte(letters, *byte))
 }
 
-// Whether a word is a dash and letters, one of which this tool doesn't have; the value of an option doesn't count. False for `-` and `--`.
+// Whether a word is a dash and letters, one of which this tool doesn't have; the value of an option
+// doesn't count. False for `-` and `--`.
 fn is_strange(tool: Tool, word: &[u8]) -> bool
     ensures { result ≡ is_strange tool word.now }
 {
@@ -98,7 +101,8 @@ fn is_strange(tool: Tool, word: &[u8]) -> bool
         && has_strange_letter(letters_of(tool), valued_of(tool), word)
 }
 
-// Whether a word is an option that `list` and `follow` have: `--json`, or `--`, behind which each word is a name.
+// Whether a word is an option that `list` and `follow` have: `--json`, or `--`, behind which each
+// word is a name.
 fn is_list_option(word: &[u8]) -> bool
     ensures { result ≡ is_list_option word.now }
 {
@@ -112,14 +116,16 @@ fn is_no_name(word: &[u8]) -> bool
     !is_dashed(word) && Name::new(word).is_none()
 }
 
-// Whether a word is an option that says what `svwait` or `svlisten` waits for: a dash, and one of the letters u, U, d, D, r, R.
+// Whether a word is an option that says what `svwait` or `svlisten` waits for: a dash, and one of
+// the letters u, U, d, D, r, R.
 fn is_condition(word: &[u8]) -> bool
     ensures { result ≡ is_condition word.now }
 {
     word.len() == 2 && is_dashed(word) && has_byte(b"uUdDrR", word[1])
 }
 
-// Whether a word is an option that says for how many services a wait is: `-a` for all of them, `-o` for one.
+// Whether a word is an option that says for how many services a wait is: `-a` for all of them, `-o`
+// for one.
 fn is_mode(word: &[u8]) -> bool
     ensures { result ≡ is_mode word.now }
 {

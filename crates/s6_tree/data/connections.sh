@@ -40,8 +40,8 @@ printf 'svc web d' >"$root/half"
 whether 'half a line ends' ends_after "$root/half"
 tell svstat -o up,wantedup web
 
-# Opens a connection of this name, where the server has a seat for it, and asks this, whose reply begins so.
-seat() {
+# Opens a connection of this name, where the server has a slot for it, and asks this, whose reply begins so.
+slot() {
     open "$1"
     ask "$1" "$2"
     grep -q "^$3" "$root/$1.out" && return
@@ -49,23 +49,23 @@ seat() {
     false
 }
 
-# Whether a connection that comes now gets no seat.
+# Whether a connection that comes now gets no slot.
 is_sent_away() { [ "$(connect </dev/null)" = busy ]; }
 
 # Ten connections that wait, an eleventh, which may not, and one more: the eleventh waits for nothing, and makes way.
 for number in $(seq 10); do
-    soon seat seat$number 'wait D a 0 web' wait
+    soon slot slot$number 'wait D a 0 web' wait
 done
-soon seat seat11 'tally web' tally
-request seat11 'wait D a 0 web'
-soon has_replies seat11 2
-say 'a wait on the last seat' "$(tail -n 2 "$root/seat11.out" | joined)"
+soon slot slot11 'tally web' tally
+request slot11 'wait D a 0 web'
+soon has_replies slot11 2
+say 'a wait on the last slot' "$(tail -n 2 "$root/slot11.out" | joined)"
 say 'one more' "$(echo 'tally three' | connect | sed 's/ .*//' | joined)"
-whether 'an idle connection makes way' soon has_ended "$client_seat11"
-close seat11
+whether 'an idle connection makes way' soon has_ended "$client_slot11"
+close slot11
 tell svstat -o up three
 
-# An eleventh that doesn't read its answers makes way too, but not at once: one more is sent away, and gets the seat a second later.
+# An eleventh that doesn't read its answers makes way too, but not at once: one more is sent away, and gets the slot a second later.
 mkfifo "$root/unread"
 exec 3<>"$root/unread"
 yes 'status web' | head -n 20000 >"$root/asked"
@@ -76,26 +76,26 @@ whether 'it gets in later' soon comes_to '0 true' svstat -o up three
 kill $unread
 wait $unread
 exec 3>&-
-say 'still there' "$(for number in $(seq 10); do eval "is_child \$client_seat$number" && echo $number; done | joined)"
-close seat10
-whether 'a seat is free again' soon comes_to 0 svc -u web
+say 'still there' "$(for number in $(seq 10); do eval "is_child \$client_slot$number" && echo $number; done | joined)"
+close slot10
+whether 'a slot is free again' soon comes_to 0 svc -u web
 for number in $(seq 9); do
-    close seat$number
+    close slot$number
 done
 whether 'all have left' soon has_at_most $before
 
 # Eleven that have just asked: each makes way, and comes again.
 for number in $(seq 11); do
-    soon seat seat$number 'tally web' tally
+    soon slot slot$number 'tally web' tally
 done
 tell svstat -o up three
 tell svstat -o up three
 for number in $(seq 11); do
-    close seat$number
+    close slot$number
 done
 whether 'all have left again' soon has_at_most $before
 
-# Sixteen that come together and wait a moment: each wait that is made has its verdict. Whoever finds no seat is told `busy`.
+# Sixteen that come together and wait a moment: each wait that is made has its verdict. Whoever finds no slot is told `busy`.
 for number in $(seq 16); do
     { echo 'wait D a 300 web' && sleep 1; } | connect >"$root/brief$number" &
     briefs="$briefs $!"

@@ -15,7 +15,7 @@ printf 'svc web d' >"$root/half"
 whether 'half a line ends' ends_after "$root/half"
 
 # Six clients make 50 waiters each, all before the first reads a reply, and cancel them; 20 times. There is room for four more that have
-# ended, or wait: on the last seat none may wait.
+# ended, or wait: on the last slot none may wait.
 six=$(seq 6)
 for each in $six; do
     open asks$each

@@ -1,4 +1,4 @@
-# Twenty services that wait for one which is slow, more than the server has seats: each comes up once that one is up, and none is given up.
+# Twenty services that wait for one which is slow, more than the server has slots: each comes up once that one is up, and none is given up.
 stage waiting
 write clock run 'sleep 3; echo; exec sleep 100'
 echo 1 >clock/notification-fd

@@ -9,8 +9,9 @@ use std::process::ExitCode;
 use tree_front::{Begun, BegunTree, LimitedErrors, Standard, begin_program, end_program};
 use tree_server::{HANDOVER, run_tree};
 
-// After how many steps a run of the tree ends, and the next goes on from its tree: the number in the environment variable S6_TREE_HANDOVER. It is
-// HANDOVER, the most, where that is not set or can't be read, is no number, is 0 or is greater.
+// After how many steps a run of the tree ends, and the next goes on from its tree: the number in
+// the environment variable S6_TREE_HANDOVER. It is HANDOVER, the most, where that is not set or
+// can't be read, is no number, is 0 or is greater.
 fn handover<R: Env + Alloc>(rt: &R) -> u64
     ensures least { 1 ≤ result }
     ensures most { result ≤ 260000 }
@@ -26,12 +27,15 @@ fn handover<R: Env + Alloc>(rt: &R) -> u64
     }
 }
 
-// The program: does what the command line asks for, and returns the exit status. `begin_program` does that itself (`Done`), but where a tree is
-// asked for it returns what the tree needs: `place` says where it runs, `lanes` start and signal its services, `keeper` has the threads that watch
-// them, `notes` are lines for standard error, and `probe` is the try whether there is a shell. Then the tree runs to its end.
+// The program: does what the command line asks for, and returns the exit status. `begin_program`
+// does that itself (`Done`), but where a tree is asked for it returns what the tree needs: `place`
+// says where it runs, `lanes` start and signal its services, `keeper` has the threads that watch
+// them, `notes` are lines for standard error, and `probe` is the try whether there is a shell. Then
+// the tree runs to its end.
 fn main(rt: HostRuntime) -> ExitCode {
     let alloc = rt.alloc();
-    // What the program reads and writes. Standard error is there twice: once for the thread that writes the notes. A limit of a file's size is kept.
+    // What the program reads and writes. Standard error is there twice: once for the thread that
+    // writes the notes. A limit of a file's size is kept.
     let standard = Standard {
         input: rt.stdin(),
         output: rt.stdout(),

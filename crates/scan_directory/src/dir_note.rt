@@ -1,14 +1,17 @@
-//! What a service directory has that doesn't mean what its writer meant, though the service is supervised.
+//! What a service directory has that doesn't mean what its writer meant, though the service is
+//! supervised.
 ghost use Rattle.std.specs.Prelude.{◌≡◌};
 ghost use Rattle.scan_directory.specs.Notes.{finish_word, note_word, run_word};
 
 use program_files::ProgramFault;
 
-/// What is noted of a directory whose service is supervised: a file that doesn't mean what it says, a program that can't be started as it is
-/// written, or what s6 knows and is passed over here. Page `servicedir`; that such a file is noted is chosen here.
+/// What is noted of a directory whose service is supervised: a file that doesn't mean what it says,
+/// a program that can't be started as it is written, or what s6 knows and is passed over here. Page
+/// `servicedir`; that such a file is noted is chosen here.
 #[derive(Clone, Copy, Debug, PartialEq, Eq)]
 pub enum DirNote {
-    /// `notification-fd` names no descriptor that is served: the service never tells that it is ready.
+    /// `notification-fd` names no descriptor that is served: the service never tells that it is
+    /// ready.
     NotifyFd,
     /// `timeout-kill` says no number: the service is never killed for being late.
     TimeoutKill,
@@ -53,7 +56,8 @@ pub fn note_word(note: DirNote) -> &'static str
     }
 }
 
-// The word of what is wrong with `run`: with its rights, with the file, or with the interpreter that its first line names.
+// The word of what is wrong with `run`: with its rights, with the file, or with the interpreter
+// that its first line names.
 fn run_word(fault: ProgramFault) -> &'static str
     ensures { result.now ≡ run_word fault }
 {

@@ -9,24 +9,26 @@ use servicedir::DirFault;
 use std::alloc::{AllocError, Global};
 use tree_core::Listing;
 
-/// A service whose directory can't be used, and why: the answer to `states` has an `unread` line for it.
+/// A service whose directory can't be used, and why: the answer to `states` has an `unread` line
+/// for it.
 #[derive(Clone, Copy, Debug, PartialEq, Eq)]
 pub struct Remark {
     pub name: Name,
     pub fault: DirFault,
 }
 
-/// A service that is supervised, and something in its directory that doesn't mean what its writer meant.
+/// A service that is supervised, and something in its directory that doesn't mean what its writer
+/// meant.
 #[derive(Clone, Copy, Debug, PartialEq, Eq)]
 pub struct Noted {
     pub name: Name,
     pub note: DirNote,
 }
 
-/// What was found in a scan directory: its listing, the directories that can't be used, and what is noted of the others, a service after the
-/// other. All are in the order read.
+/// What was found in a scan directory: its listing, the directories that can't be used, and what is
+/// noted of the others, a service after the other. All are in the order read.
 #[derive(Drop)]
-pub struct Found {
+pub struct FoundServices {
     pub listing: Listing<Global>,
     pub remarks: Vec<Remark>,
     pub notes: Vec<Noted>,

@@ -1,4 +1,5 @@
-//! What is in a scan directory: which of its entries are services, what their directories hold, and what is wrong in them.
+//! What is in a scan directory: which of its entries are services, what their directories hold, and
+//! what is wrong in them.
 #![tactic(auto)]
 
 mod dir_note;
@@ -9,5 +10,5 @@ mod service_files;
 mod text_notes;
 
 pub use dir_note::{DirNote, note_word};
-pub use found::{Found, Noted, Remark, fault_word, push_all_unread};
+pub use found::{FoundServices, Noted, Remark, fault_word, push_all_unread};
 pub use listing::read_listing;

@@ -1,4 +1,5 @@
-//! Reading a scan directory: each entry whose name is a service's is listed. What is wrong in its directory is a remark, and told on `errors`.
+//! Reading a scan directory: each entry whose name is a service's is listed. What is wrong in its
+//! directory is a remark, and told on `errors`.
 ghost use Rattle.std.specs.Prelude.{◌≡◌, ◌++◌, IfOk, OnOk, option_to_list};
 ghost use Rattle.std.specs.Char.Escape.{escape_ascii};
 ghost use Rattle.std.specs.List.{flat_map};
@@ -10,7 +11,7 @@ ghost use Rattle.scan_directory.specs.Found.{note_line};
 ghost use Rattle.scan_directory.specs.Scanning.{scan_at, last_moment};
 
 use crate::dir_note::DirNote;
-use crate::found::{Found, Noted, Remark, fault_word, push_note_line};
+use crate::found::{FoundServices, Noted, Remark, fault_word, push_note_line};
 use crate::noting::{note_service, push_note};
 use crate::service_files::ServiceFiles;
 use s6_events::{Actor, At, Name};
@@ -33,17 +34,19 @@ struct ReadEntries {
 /// The last moment that an input can have, in milliseconds: no other takes more bytes in a script.
 const LAST_MOMENT: u64 = 1_000_000_000_000_000;
 
-/// Reads each entry of the directory whose name is that of a service, and lists it, even where its directory can't be used. That it can't is
-/// told on `errors`, and so is a name that is no service's and doesn't begin with a dot, each by one write. A scan is recorded
-/// as one line of a script: a listing that is too long for such a line is told there too, and refused as `InvalidData`. Of one that is taken,
-/// what is noted of the directories that can be used is told behind the rest. Another error comes where memory is refused, or the directory
-/// can't be read. Pages `s6-svscan` and `servicedir`.
+/// Reads each entry of the directory whose name is that of a service, and lists it, even where its
+/// directory can't be used. That it can't is told on `errors`, and so is a name that is no
+/// service's and doesn't begin with a dot, each by one write. A scan is recorded as one line of a
+/// script: a listing that is too long for such a line is told there too, and refused as
+/// `InvalidData`. Of one that is taken, what is noted of the directories that can be used is told
+/// behind the rest. Another error comes where memory is refused, or the directory can't be read.
+/// Pages `s6-svscan` and `servicedir`.
 pub fn read_listing<R: Files + Copy + Drop, E: Write>(
     rt: &R,
     alloc: Global,
     directory: &str,
     errors: &mut E,
-) -> io::Result<Found>
+) -> io::Result<FoundServices>
     ensures fits { IfOk result (λ found. FitsLine (scan_at last_moment found.listing)) }
 {
     let ReadEntries {
@@ -54,7 +57,7 @@ pub fn read_listing<R: Files + Copy + Drop, E: Write>(
     match listing_of(alloc, entries) {
         Ok(listing) => {
             tell_notes(alloc, notes.as_slice(), errors)?;
-            Ok(Found {
+            Ok(FoundServices {
                 listing,
                 remarks,
                 notes,
@@ -71,8 +74,9 @@ pub fn read_listing<R: Files + Copy + Drop, E: Write>(
     }
 }
 
-// The listing of these entries. To see whether a line of a script can spell it, a scan of them is spelled once, and the text thrown away:
-// `InvalidData` where it can't, `OutOfMemory` where memory is refused.
+// The listing of these entries. To see whether a line of a script can spell it, a scan of them is
+// spelled once, and the text thrown away: `InvalidData` where it can't, `OutOfMemory` where memory
+// is refused.
 fn listing_of(alloc: Global, entries: Vec<Entry>) -> io::Result<Listing<Global>>
     ensures fits { IfOk result (λ listing. FitsLine (scan_at last_moment listing)) }
 {
@@ -122,7 +126,8 @@ fn read_entries<R: Files + Copy + Drop, E: Write>(
     read_names(rt, alloc, directory, names, errors)
 }
 
-// The entries that are services, of these names, each with a 0 behind it. A name is bytes: one that isn't UTF-8 is no error.
+// The entries that are services, of these names, each with a 0 behind it. A name is bytes: one that
+// isn't UTF-8 is no error.
 fn read_names<R: Files, N: BufRead + Drop, E: Write>(
     rt: &R,
     alloc: Global,
@@ -207,7 +212,8 @@ fn tell_bad_name<E: Write>(alloc: Global, name: &[u8], errors: &mut E) -> Result
     Ok(())
 }
 
-// Writes the lines, or as much of them as the writer takes: that a writer takes no more is no error here.
+// Writes the lines, or as much of them as the writer takes: that a writer takes no more is no error
+// here.
 fn tell_whole<E: Write>(lines: &[u8], errors: &mut E)
     ensures { IsTold (E.contents errors.old) (E.contents errors.new) lines.now }
 {
@@ -245,8 +251,9 @@ fn push_escaped_byte(line: &mut Vec<u8>, byte: u8) -> Result<(), AllocError>
     Ok(())
 }
 
-// The configuration of a service; None where its directory can't be used: then why is added to `remarks`, and told on `errors`. What is noted of
-// one that can be used is added to `notes`. The error says that memory was refused.
+// The configuration of a service; None where its directory can't be used: then why is added to
+// `remarks`, and told on `errors`. What is noted of one that can be used is added to `notes`. The
+// error says that memory was refused.
 fn read_service<R: Files, E: Write>(
     rt: &R,
     alloc: Global,
@@ -274,7 +281,8 @@ fn read_service<R: Files, E: Write>(
     }
 }
 
-// Tells on `errors` by one line why the directory of the service of this name can't be used. An error where memory for the line is refused.
+// Tells on `errors` by one line why the directory of the service of this name can't be used. An
+// error where memory for the line is refused.
 fn tell_fault<E: Write>(
     alloc: Global,
     name: &str,
@@ -287,7 +295,8 @@ fn tell_fault<E: Write>(
     Ok(())
 }
 
-// Tells on `errors` what is noted, a line for each note. An error where memory for a line is refused.
+// Tells on `errors` what is noted, a line for each note. An error where memory for a line is
+// refused.
 fn tell_notes<E: Write>(alloc: Global, notes: &[Noted], errors: &mut E) -> Result<(), AllocError> {
     for noted in notes {
         tell_note(alloc, noted, errors)?;

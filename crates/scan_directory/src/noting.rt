@@ -13,7 +13,8 @@ use std::alloc::{AllocError, Global};
 use std::fs;
 use std::rt::Files;
 
-/// Adds what is noted of the directory of a service, in which these files were found. The error says that memory was refused.
+/// Adds what is noted of the directory of a service, in which these files were found. The error
+/// says that memory was refused.
 pub fn note_service<R: Files>(
     rt: &R,
     alloc: Global,

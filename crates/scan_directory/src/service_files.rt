@@ -33,8 +33,8 @@ pub enum Reading {
     NoMemory,
 }
 
-/// The files of one service directory: what reading each of them gave; `kind` is the file `type`. And how many readings failed (`failures`) or
-/// were refused memory (`refused`).
+/// The files of one service directory: what reading each of them gave; `kind` is the file `type`.
+/// And how many readings failed (`failures`) or were refused memory (`refused`).
 #[derive(Drop)]
 pub struct ServiceFiles {
     run: Reading,
@@ -67,16 +67,14 @@ impl ServiceFiles {
             timeout_finish: look(rt, alloc, directory, ServiceFile::TimeoutFinish),
             max_death_tally: look(rt, alloc, directory, ServiceFile::MaxDeathTally),
             down_signal: look(rt, alloc, directory, ServiceFile::DownSignal),
-            // How many readings failed, for another reason than a refusal of memory.
             failures: 0,
-            // How many readings were refused memory.
             refused: 0,
-            // The file of the last reading that failed or was refused memory.
             failed: None,
         }
     }
 
-    /// What is noted of the files whose texts are read, but for `notification-fd`: that one `servicedir::read` notes.
+    /// What is noted of the files whose texts are read, but for `notification-fd`: that one
+    /// `servicedir::read` notes.
     pub fn text_notes(&self) -> [Option<DirNote>; 4]
         ensures { result ≡ text_notes self.now }
     {
@@ -105,8 +103,9 @@ impl ServiceFiles {
         }
     }
 
-    // Counts a reading of this file that failed: in `failures`, or in `refused` where memory was refused; and keeps the file in `failed`. Returns
-    // the fault; where `failures` is full, the reading counts as refused, and the fault becomes `NoMemory`.
+    // Counts a reading of this file that failed: in `failures`, or in `refused` where memory was
+    // refused; and keeps the file in `failed`. Returns the fault; where `failures` is full, the
+    // reading counts as refused, and the fault becomes `NoMemory`.
     fn fail(&mut self, file: ServiceFile, fault: ReadFault) -> ReadFault
         ensures same { (f : _) → found_of self.new f ≡ found_of self.old f }
         ensures count { Counts {V = Unit {0}} (Err result) file
@@ -144,8 +143,8 @@ fn look<R: Files>(rt: &R, alloc: Global, directory: &str, file: ServiceFile) -> 
     }
 }
 
-// The bytes of a regular file; only the first 4,097 where it has more. A file of another kind is not opened, since to open a pipe would wait
-// for its writer: the error is `InvalidInput`.
+// The bytes of a regular file; only the first 4,097 where it has more. A file of another kind is
+// not opened, since to open a pipe would wait for its writer: the error is `InvalidInput`.
 fn read_file<R: Files>(rt: &R, alloc: Global, path: &str) -> io::Result<Vec<u8>> {
     if !fs::metadata(rt, path)?.is_file() {
         return Err(ErrorKind::InvalidInput.into());
@@ -168,8 +167,9 @@ impl servicedir::Files for ServiceFiles {
 
     ghost refused = { λ f. f.refused };
 
-    // Whether the file is there. One that can't be read counts as there; where it isn't known whether it is, that is a failure, which is counted.
-    // The name is not looked at: the files are those of one service.
+    // Whether the file is there. One that can't be read counts as there; where it isn't known
+    // whether it is, that is a failure, which is counted. The name is not looked at: the files are
+    // those of one service.
     fn has(&mut self, _name: Name, file: ServiceFile) -> Result<bool, ReadFault> {
         match self.found(file) {
             Reading::Absent => Ok(false),
@@ -179,8 +179,8 @@ impl servicedir::Files for ServiceFiles {
         }
     }
 
-    // A copy of what was read of the file; None where it is absent. A failure is counted. The name is not looked at: the files are those of one
-    // service.
+    // A copy of what was read of the file; None where it is absent. A failure is counted. The name
+    // is not looked at: the files are those of one service.
     fn text<A: Allocator + Copy>(
         &mut self,
         alloc: A,
@@ -194,15 +194,16 @@ impl servicedir::Files for ServiceFiles {
     }
 }
 
-// A copy of the bytes that were read of a file; None where it is absent. `Io` where it could not be read, `NoMemory` where memory was refused,
-// then or now.
+// A copy of the bytes that were read of a file; None where it is absent. `Io` where it could not be
+// read, `NoMemory` where memory was refused, then or now.
 fn copy_of<A: Allocator + Copy>(alloc: A, found: &Reading) -> Result<Option<Vec<u8, A>>, ReadFault>
     ensures text { IfOk result (λ text. option_map (λ t. t.items) text ≡ content_of found.now) }
     ensures bound { IfOk result (λ text. IfSome text (λ t. length t.items ≤ reading_limit)) }
 {
     match found {
         Reading::Absent => Ok(None),
-        // The guard always holds, since `read_file` gives no more bytes. It is there for the clause `bound`.
+        // The guard always holds, since `read_file` gives no more bytes. It is there for the clause
+        // `bound`.
         Reading::Text(text) if text.len() <= READING_LIMIT => {
             match Vec::from_slice(alloc, text.as_slice()) {
                 Ok(copy) => Ok(Some(copy)),

@@ -1,4 +1,5 @@
-//! What is noted of the files whose texts are read: a file that is there, and says nothing that can be taken, means what an absent one means.
+//! What is noted of the files whose texts are read: a file that is there, and says nothing that can
+//! be taken, means what an absent one means.
 ghost use Rattle.std.specs.Prelude.{◌≡◌, Some};
 ghost use Rattle.servicedir.specs.Config.{number_in, signal_in};
 ghost use Rattle.scan_directory.specs.Files.{text_in};
@@ -9,7 +10,7 @@ use crate::service_files::Reading;
 use servicedir::{parse_number, parse_signal};
 
 /// The most bytes of a file whose text may be valid.
-const TEXT_LIMIT: usize = 4096;
+const FILE_TEXT_LIMIT: usize = 4096;
 
 /// The most deaths that are kept.
 const DEATH_LIMIT: u32 = 4096;
@@ -18,7 +19,7 @@ const DEATH_LIMIT: u32 = 4096;
 fn number_in_text(text: &[u8]) -> Option<u32>
     ensures { result ≡ number_in (Some text.now) }
 {
-    if text.len() > TEXT_LIMIT {
+    if text.len() > FILE_TEXT_LIMIT {
         return None;
     }
     parse_number(text)
@@ -28,7 +29,7 @@ fn number_in_text(text: &[u8]) -> Option<u32>
 fn signal_in_text(text: &[u8]) -> Option<u8>
     ensures { result ≡ signal_in (Some text.now) }
 {
-    if text.len() > TEXT_LIMIT {
+    if text.len() > FILE_TEXT_LIMIT {
         return None;
     }
     parse_signal(text)

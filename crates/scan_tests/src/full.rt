@@ -7,7 +7,9 @@ use s6_events::{At, Mark, Name, Order, Sid};
 use servicedir::Config;
 use std::alloc::Global;
 use std::process::Abort;
-use svscan_core::{Answer, Entry, Event, Listed, Registry, RegistryPlan, ScanOrder, ServiceWork};
+use svscan_core::{
+    Entry, Event, Listed, Registry, RegistryAnswer, RegistryPlan, ScanOrder, ServiceWork,
+};
 
 // The name of this number: n001, n002 and so on.
 fn name_of(rt: &impl Abort, number: u16) -> Name {
@@ -30,7 +32,7 @@ fn too_many(rt: &impl Abort, alloc: Global) -> Vec<Entry, Global> {
 }
 
 // A service that is added, and begins to run.
-fn add_service(rt: &impl Abort, wanted: &mut Answer<Global>, sid: Sid, name: Name) {
+fn add_service(rt: &impl Abort, wanted: &mut RegistryAnswer<Global>, sid: Sid, name: Name) {
     let mark = Mark::SupervisorStarted;
     let listed = wanted.listed.push(Listed::Added(sid, name));
     let told = wanted.events.push(Event { sid, mark });
@@ -39,14 +41,15 @@ fn add_service(rt: &impl Abort, wanted: &mut Answer<Global>, sid: Sid, name: Nam
 }
 
 // A service that finds no place.
-fn add_full(rt: &impl Abort, wanted: &mut Answer<Global>, name: Name) {
+fn add_full(rt: &impl Abort, wanted: &mut RegistryAnswer<Global>, name: Name) {
     let listed = wanted.listed.push(Listed::Full(name));
     assert!(rt; listed.is_ok());
 }
 
-// What comes of them: the first 256 are added, in the order of their bytes, and the others find no place.
-fn full_table(rt: &impl Abort, alloc: Global) -> Answer<Global> {
-    let mut wanted = Answer {
+// What comes of them: the first 256 are added, in the order of their bytes, and the others find no
+// place.
+fn full_table(rt: &impl Abort, alloc: Global) -> RegistryAnswer<Global> {
+    let mut wanted = RegistryAnswer {
         events: Vec::new(alloc),
         orders: Vec::new(alloc),
         dropped: Vec::new(alloc),
@@ -64,7 +67,7 @@ fn full_table(rt: &impl Abort, alloc: Global) -> Answer<Global> {
 }
 
 // What the step gives that was worked out last is what was wanted.
-fn tells(rt: &impl Abort, registry: &Registry<Global>, wanted: &Answer<Global>) {
+fn tells(rt: &impl Abort, registry: &Registry<Global>, wanted: &RegistryAnswer<Global>) {
     assert_eq!(rt; registry.events(), wanted.events.as_slice());
     assert_eq!(rt; registry.orders(), wanted.orders.as_slice());
     assert_eq!(rt; registry.listed(), wanted.listed.as_slice());
@@ -76,7 +79,7 @@ fn tells(rt: &impl Abort, registry: &Registry<Global>, wanted: &Answer<Global>) 
 }
 
 // What was answered is what was wanted.
-fn answers(rt: &impl Abort, answer: &Answer<Global>, wanted: &Answer<Global>) {
+fn answers(rt: &impl Abort, answer: &RegistryAnswer<Global>, wanted: &RegistryAnswer<Global>) {
     assert_eq!(rt; answer.events.as_slice(), wanted.events.as_slice());
     assert_eq!(rt; answer.orders.as_slice(), wanted.orders.as_slice());
     assert_eq!(rt; answer.listed.as_slice(), wanted.listed.as_slice());

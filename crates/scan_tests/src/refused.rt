@@ -41,7 +41,8 @@ fn make<A: Allocator + Copy>(
     registry.commit(planned.expect(rt, "memory"));
 }
 
-// A step that is refused shows what was shown; without the filler it is made. Whether it was refused.
+// A step that is refused shows what was shown; without the filler it is made. Whether it was
+// refused.
 fn is_step_refused<A: Allocator + Copy>(
     rt: &impl Abort,
     alloc: Global,
@@ -71,7 +72,8 @@ fn is_scanned<A: Allocator + Copy>(
     is_scanned
 }
 
-// A scan that is refused leaves what was shown; without the filler it is made. Whether it was refused.
+// A scan that is refused leaves what was shown; without the filler it is made. Whether it was
+// refused.
 fn is_scan_refused<A: Allocator + Copy>(
     rt: &impl Abort,
     alloc: Global,
@@ -88,7 +90,8 @@ fn is_scan_refused<A: Allocator + Copy>(
     true
 }
 
-// With so many bytes left for a step, and then for a scan, after which nine services stand: how many of the two were refused.
+// With so many bytes left for a step, and then for a scan, after which nine services stand: how
+// many of the two were refused.
 fn with_little<'h>(
     rt: &impl Abort,
     alloc: Global,
@@ -143,8 +146,8 @@ fn add_few<A: Allocator + Copy>(rt: &impl Abort, alloc: Global, registry: &mut R
     assert!(rt; answer.is_some());
 }
 
-// Terminate with so many bytes left, and then a step that does nothing: whether the order was refused. If so, it isn't made all the
-// same.
+// Terminate with so many bytes left, and then a step that does nothing: whether the order was
+// refused. If so, it isn't made all the same.
 fn refuse_order<'h>(
     rt: &impl Abort,
     alloc: Global,

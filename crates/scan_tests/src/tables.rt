@@ -12,7 +12,9 @@ use servicedir::Config;
 use std::alloc::{Allocator, Global};
 use std::process::Abort;
 use supervise_core::ChartState;
-use svscan_core::{Answer, Entry, Registry, RegistryPlan, ScanOrder, ServiceWork, has_repeats};
+use svscan_core::{
+    Entry, Registry, RegistryAnswer, RegistryPlan, ScanOrder, ServiceWork, has_repeats,
+};
 
 // Whether it is one of these.
 fn is_among(due: &[Sid], sid: Sid) -> bool
@@ -80,8 +82,8 @@ fn is_ready<A: Allocator + Copy>(registry: &Registry<A>, due: &[Sid], now: At) -
     are_fit(registry, due, now)
 }
 
-// The step is worked out, where it lists no name twice and the registry is ready for it; None where that is not so, or where memory was
-// refused.
+// The step is worked out, where it lists no name twice and the registry is ready for it; None where
+// that is not so, or where memory was refused.
 fn prepare_orderly<A: Allocator + Copy>(
     registry: &mut Registry<A>,
     due: &[Sid],
@@ -97,7 +99,8 @@ fn prepare_orderly<A: Allocator + Copy>(
     registry.prepare(due, work, now).ok()
 }
 
-// The step is worked out, where these services are the ones whose timers are due; None where memory was refused.
+// The step is worked out, where these services are the ones whose timers are due; None where memory
+// was refused.
 pub fn prepare<A: Allocator + Copy>(
     rt: &impl Abort,
     alloc: Global,
@@ -120,7 +123,7 @@ pub fn scan<A: Allocator + Copy>(
     registry: &mut Registry<A>,
     listing: &[Entry],
     now: At,
-) -> Option<Answer<A>> {
+) -> Option<RegistryAnswer<A>> {
     let repeats = has_repeats(alloc, listing).expect(rt, "memory");
     let are_fit = are_fit(registry, &[], At::zero());
     assert!(rt; !repeats);
@@ -135,14 +138,15 @@ pub fn control<A: Allocator + Copy>(
     registry: &mut Registry<A>,
     order: ScanOrder,
     now: At,
-) -> Option<Answer<A>> {
+) -> Option<RegistryAnswer<A>> {
     let are_fit = are_fit(registry, &[], At::zero());
     assert!(rt; are_fit);
     assert!(rt; registry.next_sid().0 < 1000);
     registry.control(order, now).ok()
 }
 
-// An entry of this name, which keeps few deaths, so that their memory is small beside that of a step.
+// An entry of this name, which keeps few deaths, so that their memory is small beside that of a
+// step.
 fn entry(rt: &impl Abort, word: &str) -> Entry {
     let name = Name::new(word.as_bytes()).expect(rt, "a name");
     let config = Config {

@@ -4,16 +4,16 @@ use Rattle.std.proofs.lemmas.Bool.{ltb-true, lt-ltb}
 use Rattle.std.proofs.lemmas.List.{length-append}
 use Rattle.server_rules.specs.declared.phase.Errand.{Errand}
 use Rattle.server_rules.specs.declared.phase.Errand.TheVariants as errand
-use Rattle.server_rules.specs.declared.phase.Phase.{Phase}
-use Rattle.server_rules.specs.declared.phase.Phase.TheVariants.{Idle, Stepping, UnderWay, PutOff, LeftStepping, Left, Leaving, Cancelling, Gone}
-use Rattle.server_rules.specs.declared.standing.StandingChange.{StandingChange}
-use Rattle.server_rules.specs.declared.standing.StandingChange.TheVariants as change
+use Rattle.server_rules.specs.declared.phase.ClientPhase.{ClientPhase}
+use Rattle.server_rules.specs.declared.phase.ClientPhase.TheVariants.{Idle, Stepping, UnderWay, PutOff, LeftStepping, Left, Leaving, Cancelling, Gone}
+use Rattle.server_rules.specs.declared.made_things.MadeChange.{MadeChange}
+use Rattle.server_rules.specs.declared.made_things.MadeChange.TheVariants as change
 use Rattle.server_rules.specs.declared.todo.News.{News}
 use Rattle.server_rules.specs.declared.todo.News.TheVariants as news
 use Rattle.tree_core.specs.declared.effect.Release.{Release}
 use Rattle.server_rules.specs.Connection.{View, has_room_in, has_room_on, is_here}
 use Rattle.server_rules.specs.NewsTold.{is_for}
-use Rattle.server_rules.specs.Standing.{Made, after_release, has_place, has_room_for, is_among, without}
+use Rattle.server_rules.specs.Made.{Made, after_release, has_place, has_room_for, is_among, without}
 
 one_no_longer : (is : Bool) (x : ℕ) (rest : List ℕ) (n : ℕ) → length rest ≤ n → length (cond (not is) (x ∷ rest) rest) ≤ suc n
 one_no_longer true x rest n le = omega (arith, le)
@@ -47,7 +47,7 @@ place_stays : (id : ℕ) (made : Made) → is_among id made.waiters ≡ true →
 place_stays id made any has =
     lt-ltb _ _ (rw (length-append made.released (id ∷ [])) (omega (arith, shorter id made.waiters any, ltb-true _ _ has)))
 
-room_for : (ch : StandingChange) (id : ℕ) (made : Made) → is_among id made.waiters ≡ true → has_room_for ch made ≡ true
+room_for : (ch : MadeChange) (id : ℕ) (made : Made) → is_among id made.waiters ≡ true → has_room_for ch made ≡ true
     → has_room_for ch (after_release id made) ≡ true
 room_for change.Other id made any has = refl
 room_for change.MakesWaiter id made any has = place_stays id made any has
@@ -64,7 +64,7 @@ room_on errand.Record id made any has = refl
 room_on errand.Replacement id made any has = place_stays id made any has
 
 -- there is room still for what is under way
-pub room_stays : (phase : Phase) (id : ℕ) (made : Made) → is_among id made.waiters ≡ true → has_room_in phase made ≡ true
+pub room_stays : (phase : ClientPhase) (id : ℕ) (made : Made) → is_among id made.waiters ≡ true → has_room_in phase made ≡ true
     → has_room_in phase (after_release id made) ≡ true
 room_stays Idle id made any has = refl
 room_stays (Stepping n) id made any has = refl

@@ -6,17 +6,17 @@ use Rattle.tree_core.specs.declared.input.Act.{Act}
 use Rattle.tree_core.specs.declared.input.Act.TheVariants.{Cancel, Tick}
 use Rattle.server_rules.specs.declared.own_answer.OwnAnswer.TheVariants as own
 use Rattle.server_rules.specs.declared.phase.Errand.TheVariants as errand
-use Rattle.server_rules.specs.declared.phase.Phase.{Phase}
-use Rattle.server_rules.specs.declared.phase.Phase.TheVariants.{Idle, Stepping, UnderWay, PutOff, LeftStepping, Left, Leaving, Cancelling, Gone}
+use Rattle.server_rules.specs.declared.phase.ClientPhase.{ClientPhase}
+use Rattle.server_rules.specs.declared.phase.ClientPhase.TheVariants.{Idle, Stepping, UnderWay, PutOff, LeftStepping, Left, Leaving, Cancelling, Gone}
 use Rattle.server_rules.specs.declared.requests.Request.{Request}
 use Rattle.server_rules.specs.declared.requests.Request.TheVariants as request
-use Rattle.server_rules.specs.declared.standing.Admission.{Admission}
-use Rattle.server_rules.specs.declared.standing.Admission.TheVariants as admission
-use Rattle.server_rules.specs.declared.standing.StandingChange.{StandingChange}
-use Rattle.server_rules.specs.declared.standing.StandingChange.TheVariants as change
+use Rattle.server_rules.specs.declared.made_things.Admission.{Admission}
+use Rattle.server_rules.specs.declared.made_things.Admission.TheVariants as admission
+use Rattle.server_rules.specs.declared.made_things.MadeChange.{MadeChange}
+use Rattle.server_rules.specs.declared.made_things.MadeChange.TheVariants as change
 use Rattle.server_rules.specs.declared.todo.Answer.TheVariants as answer
 use Rattle.server_rules.specs.declared.todo.Todo.TheVariants as todo
-use Rattle.server_rules.specs.Standing.{Ended, admission_of, change_of, let_go, next_end}
+use Rattle.server_rules.specs.Made.{Ended, admission_of, change_of, let_go, next_end}
 use Rattle.server_rules.specs.StatusAge.{is_recent}
 use Rattle.server_rules.specs.Connection.{View, Moved, stays, hands_in, answers_by}
 
@@ -24,7 +24,7 @@ use Rattle.server_rules.specs.Connection.{View, Moved, stays, hands_in, answers_
 abbrev pub step_limit : ℕ
 step_limit = 64
 
-abbrev pub steps_in : StandingChange → ℕ → Act Global → View → Moved
+abbrev pub steps_in : MadeChange → ℕ → Act Global → View → Moved
 steps_in change.Other n act c = record { next = record c { phase = Stepping (n + 1) }; todo = todo.Submit act }
 steps_in ch n act c = hands_in (errand.Step ch) act c
 
@@ -55,7 +55,7 @@ begin_first [] last_step now c = stays c
 begin_first (r ∷ rest) last_step now c = begin_request r last_step now (record c { asked = rest })
 
 -- while steps are under way, the next request is begun if it is such a step too
-abbrev pub joins : StandingChange → ℕ → Act Global → List Request → View → Moved
+abbrev pub joins : MadeChange → ℕ → Act Global → List Request → View → Moved
 joins change.Other n act rest c = steps_in change.Other n act (record c { asked = rest })
 joins ch n act rest c = stays c
 
@@ -63,7 +63,7 @@ abbrev pub begin_next : List Request → ℕ → View → Moved
 begin_next (request.Step act ∷ rest) n c = joins (change_of act) n act rest c
 begin_next asked n c = stays c
 
-abbrev pub is_other : StandingChange → Bool
+abbrev pub is_other : MadeChange → Bool
 is_other change.Other = true
 is_other ch = false
 
@@ -83,7 +83,7 @@ abbrev pub ends_by : Option Ended → View → Moved
 ends_by (Some ended) c = record { next = record c { phase = Cancelling; made = ended.made }; todo = todo.Submit ended.act }
 ends_by None c = record { next = record c { phase = Gone; made = let_go c.made }; todo = todo.Free }
 
-abbrev pub begin_in : Phase → (last_step now : ℕ) → View → Moved
+abbrev pub begin_in : ClientPhase → (last_step now : ℕ) → View → Moved
 begin_in Idle last_step now c = begin_first c.asked last_step now c
 begin_in (Stepping n) last_step now c = begin_beside n c
 begin_in (UnderWay e) last_step now c = stays c

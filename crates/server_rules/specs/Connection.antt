@@ -5,17 +5,17 @@ use Rattle.std.specs.declared.alloc.Global.{Global}
 use Rattle.tree_core.specs.declared.input.Act.{Act}
 use Rattle.server_rules.specs.declared.phase.Errand.{Errand}
 use Rattle.server_rules.specs.declared.phase.Errand.TheVariants as errand
-use Rattle.server_rules.specs.declared.phase.Phase.{Phase}
-use Rattle.server_rules.specs.declared.phase.Phase.TheVariants.{Idle, Stepping, UnderWay, PutOff, LeftStepping, Left, Leaving}
+use Rattle.server_rules.specs.declared.phase.ClientPhase.{ClientPhase}
+use Rattle.server_rules.specs.declared.phase.ClientPhase.TheVariants.{Idle, Stepping, UnderWay, PutOff, LeftStepping, Left, Leaving}
 use Rattle.server_rules.specs.declared.requests.Request.{Request}
 use Rattle.server_rules.specs.declared.todo.Answer.{Answer}
 use Rattle.server_rules.specs.declared.todo.Todo.{Todo}
 use Rattle.server_rules.specs.declared.todo.Todo.TheVariants as todo
-use Rattle.server_rules.specs.Standing.{Made, nothing_made, has_place, has_room_for}
+use Rattle.server_rules.specs.Made.{Made, nothing_made, has_place, has_room_for}
 
--- its phase, the requests that aren't begun, in the order asked, and its standing
+-- its phase, the requests that aren't begun, in the order asked, and what it made
 pub record View : Type 0 where
-  pub phase : Phase
+  pub phase : ClientPhase
   pub asked : List Request
   pub made : Made
 
@@ -35,7 +35,7 @@ abbrev pub has_begun_all : List Request → Bool
 has_begun_all [] = true
 has_begun_all (r ∷ asked) = false
 
-abbrev pub is_here : Phase → Bool
+abbrev pub is_here : ClientPhase → Bool
 is_here Idle = true
 is_here (Stepping n) = true
 is_here (UnderWay e) = true
@@ -59,7 +59,7 @@ abbrev pub answers_by : Answer → View → Moved
 answers_by a c = record { next = c; todo = todo.Give a }
 
 -- LEAVE: requests that aren't begun are dropped, and all that the connection made is ended once nothing is under way
-abbrev pub leave_in : Phase → View → View
+abbrev pub leave_in : ClientPhase → View → View
 leave_in Idle c = record c { phase = Leaving; asked = [] }
 leave_in (Stepping n) c = record c { phase = LeftStepping n; asked = [] }
 leave_in (UnderWay e) c = record c { phase = Left e; asked = [] }
@@ -70,7 +70,7 @@ abbrev pub leave_next : View → View
 leave_next c = leave_in c.phase c
 
 -- there is something to begin
-abbrev pub is_ready_in : Phase → List Request → Bool
+abbrev pub is_ready_in : ClientPhase → List Request → Bool
 is_ready_in Idle [] = false
 is_ready_in Idle (r ∷ asked) = true
 is_ready_in PutOff asked = true
@@ -86,7 +86,7 @@ has_room_on (errand.Step ch) made = has_room_for ch made
 has_room_on errand.Replacement made = has_place made
 has_room_on e made = true
 
-abbrev pub has_room_in : Phase → Made → Bool
+abbrev pub has_room_in : ClientPhase → Made → Bool
 has_room_in (UnderWay e) made = has_room_on e made
 has_room_in PutOff made = has_place made
 has_room_in (Left e) made = has_room_on e made

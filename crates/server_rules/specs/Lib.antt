@@ -5,6 +5,7 @@ pub mod ErrandEnds
 pub mod Faults
 pub mod Handover
 pub mod Letters
+pub mod Made
 pub mod NewsTold
 pub mod Places
 pub mod Plans
@@ -12,7 +13,6 @@ pub mod Recipients
 pub mod Requests
 pub mod Roster
 pub mod Sockets
-pub mod Standing
 pub mod States
 pub mod Status
 pub mod StatusAge

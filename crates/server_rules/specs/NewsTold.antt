@@ -3,7 +3,7 @@ use Rattle.std.specs.Prelude.{◌&&◌, Bool, if◌then◌else◌}
 use Rattle.server_rules.specs.declared.todo.News.{News}
 use Rattle.server_rules.specs.declared.todo.News.TheVariants as news
 use Rattle.server_rules.specs.declared.todo.Todo.TheVariants as todo
-use Rattle.server_rules.specs.Standing.{Made, after_release, is_among, is_followed}
+use Rattle.server_rules.specs.Made.{Made, after_release, is_among, is_followed}
 use Rattle.server_rules.specs.Connection.{View, Moved, stays, is_here}
 
 -- TOLD: unless it has left, the connection is told news of its subscriptions and waiters, and letters of the services that it follows

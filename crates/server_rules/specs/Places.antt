@@ -7,6 +7,6 @@ use Rattle.server_rules.specs.declared.places.Place.TheVariants.{Scanner, Lane, 
 abbrev pub place_of : ℕ → Place
 place_of actor = if actor == 0 then Scanner else if nat_lt actor 5 then Lane (actor - 1) else Client (actor - 5)
 
--- the actor of the connection on this seat; there are 11 seats
+-- the actor of the connection on this slot; there are 11 slots
 abbrev pub client_actor : ℕ → Option ℕ
-client_actor seat = if nat_lt seat 11 then Some (5 + seat) else None
+client_actor slot = if nat_lt slot 11 then Some (5 + slot) else None

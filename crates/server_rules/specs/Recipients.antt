@@ -26,13 +26,13 @@ use Rattle.server_rules.specs.Connection.{View, Moved}
 use Rattle.server_rules.specs.NewsTold.{is_for, told_move}
 use Rattle.server_rules.specs.ErrandEnds.{answered_move}
 
--- the seats of the connections that the reply to a step answers: for a scan those that asked for it, for a request the one that asked
+-- the slots of the connections that the reply to a step answers: for a scan those that asked for it, for a request the one that asked
 abbrev pub askers_of : Place → Bool → List ℕ → List ℕ
 askers_of Scanner true served = served
-askers_of (Client seat) is_scan served = seat ∷ []
+askers_of (Client slot) is_scan served = slot ∷ []
 askers_of place is_scan served = []
 
--- the connections, by their seats, and what was posted, in order
+-- the connections, by their slots, and what was posted, in order
 pub record Handed : Type 0 where
   pub connections : List View
   pub posts : List Post
@@ -42,32 +42,32 @@ untouched cs = record { connections = cs; posts = [] }
 
 -- what is posted to a connection: an answer, or the news
 abbrev pub posts_of : ℕ → Option News → Todo → List Post
-posts_of seat n (todo.Give answer) = record { seat = seat; line = line.Answer answer } ∷ []
-posts_of seat (Some n) todo.Tell = record { seat = seat; line = line.News n } ∷ []
-posts_of seat n t = []
+posts_of slot n (todo.Give answer) = record { slot = slot; line = line.Answer answer } ∷ []
+posts_of slot (Some n) todo.Tell = record { slot = slot; line = line.News n } ∷ []
+posts_of slot n t = []
 
 abbrev pub moved_at : ℕ → Option News → Moved → List View → Handed
-moved_at seat n m cs = record { connections = slice_set cs seat m.next; posts = posts_of seat n m.todo }
+moved_at slot n m cs = record { connections = slice_set cs slot m.next; posts = posts_of slot n m.todo }
 
--- the reply goes to the connection on this seat
+-- the reply goes to the connection on this slot
 abbrev pub answer_in : Option View → Reply Global → ℕ → List View → Handed
-answer_in (Some c) reply seat cs = moved_at seat None (answered_move reply c) cs
-answer_in None reply seat cs = untouched cs
+answer_in (Some c) reply slot cs = moved_at slot None (answered_move reply c) cs
+answer_in None reply slot cs = untouched cs
 
 abbrev pub answer_at : Reply Global → ℕ → List View → Handed
-answer_at reply seat cs = answer_in (slice_get cs seat) reply seat cs
+answer_at reply slot cs = answer_in (slice_get cs slot) reply slot cs
 
 -- the news go to this connection, if they concern it
 abbrev pub tell_in : Option View → News → ℕ → List View → Handed
-tell_in (Some c) n seat cs = moved_at seat (Some n) (told_move n c) cs
-tell_in None n seat cs = untouched cs
+tell_in (Some c) n slot cs = moved_at slot (Some n) (told_move n c) cs
+tell_in None n slot cs = untouched cs
 
--- the news go to the connection on this seat, if they concern it
-abbrev pub tell_seat : News → ℕ → List View → Handed
-tell_seat n seat cs = tell_in (slice_get cs seat) n seat cs
+-- the news go to the connection on this slot, if they concern it
+abbrev pub tell_slot : News → ℕ → List View → Handed
+tell_slot n slot cs = tell_in (slice_get cs slot) n slot cs
 
 abbrev pub tell_at : Option ℕ → News → List View → Handed
-tell_at (Some seat) n cs = tell_seat n seat cs
+tell_at (Some slot) n cs = tell_slot n slot cs
 tell_at None n cs = untouched cs
 
 abbrev pub tell : News → List View → Handed
@@ -92,17 +92,17 @@ abbrev pub hand_all : {X : Type 0} → (X → List View → Handed) → List X �
 hand_all hand [] cs = untouched cs
 hand_all hand (x ∷ xs) cs = followed_by (hand x cs) (hand_all hand xs (hand x cs).connections)
 
--- the seats of connections, in rising order
-abbrev pub all_seats : List ℕ
-all_seats = 0 ∷ 1 ∷ 2 ∷ 3 ∷ 4 ∷ 5 ∷ 6 ∷ 7 ∷ 8 ∷ 9 ∷ 10 ∷ []
+-- the slots of connections, in rising order
+abbrev pub all_slots : List ℕ
+all_slots = 0 ∷ 1 ∷ 2 ∷ 3 ∷ 4 ∷ 5 ∷ 6 ∷ 7 ∷ 8 ∷ 9 ∷ 10 ∷ []
 
 -- a letter goes to all that follow its service
 abbrev pub tell_letter : ℕ → List Member → Event → List View → Handed
-tell_letter at roster e cs = hand_all (tell_seat (news.Letter (told_letter at roster e))) all_seats cs
+tell_letter at roster e cs = hand_all (tell_slot (news.Letter (told_letter at roster e))) all_slots cs
 
 -- what a step at this moment hands out: first the reply, to those who asked for it, then its letters, then its matches, then its releases
 abbrev pub with_answers : List ℕ → Outcome Global → List View → Handed
-with_answers seats o cs = hand_all (answer_at o.reply) seats cs
+with_answers slots o cs = hand_all (answer_at o.reply) slots cs
 
 abbrev pub with_letters : ℕ → List Member → Outcome Global → Handed → Handed
 with_letters at roster o h = followed_by h (hand_all (tell_letter at roster) o.events h.connections)
@@ -114,7 +114,7 @@ abbrev pub with_releases : Outcome Global → Handed → Handed
 with_releases o h = followed_by h (hand_all tell_release o.released h.connections)
 
 abbrev pub handed_out : List ℕ → ℕ → List Member → Outcome Global → List View → Handed
-handed_out seats at roster o cs = with_releases o (with_matches o (with_letters at roster o (with_answers seats o cs)))
+handed_out slots at roster o cs = with_releases o (with_matches o (with_letters at roster o (with_answers slots o cs)))
 
 -- the texts that are posted, each with an empty line behind it
 abbrev pub reply_lines : Reply Global → List ℕ

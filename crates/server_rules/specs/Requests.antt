@@ -88,12 +88,12 @@ is_lasting (request.Step act) = is_waiting act
 is_lasting (request.Follow services) = true
 is_lasting r = false
 
--- the actor of the last seat, which is kept for short requests
+-- the actor of the last slot, which is kept for short requests
 abbrev pub last_client : ℕ
 last_client = 15
 
-abbrev pub seated_request : ℕ → Request → Request
-seated_request actor r = if (actor == last_client) && is_lasting r then request.Refused own.Busy else r
+abbrev pub allowed_request : ℕ → Request → Request
+allowed_request actor r = if (actor == last_client) && is_lasting r then request.Refused own.Busy else r
 
 -- the request of a line that asks for none of the server's own. A status or a step is the act that the line spells. A line that is refused
 -- as `Line` spells no act that clients may ask for; one that is refused as `Pattern` spells an act but for its pattern
@@ -105,11 +105,11 @@ AsksFor (request.Refused own.Pattern) line = SpellsActButForPattern Global line
 AsksFor (request.Refused own.NoMemory) line = Unit {0}
 AsksFor r line = ⊥
 
--- the request of a line, before it is known on which seat it was asked
+-- the request of a line, before it is known on which slot it was asked
 abbrev pub IsRequestOf : Request → Option Request → List ℕ → Type 0
 IsRequestOf r (Some own) line = r ≡ own
 IsRequestOf r None line = AsksFor r line
 
--- the request of a line on the seat of this actor
+-- the request of a line on the slot of this actor
 abbrev pub IsAsked : Request → ℕ → List ℕ → Type 0
-IsAsked result actor line = (r : Request) × IsRequestOf r (own_request line) line × (result ≡ seated_request actor r)
+IsAsked result actor line = (r : Request) × IsRequestOf r (own_request line) line × (result ≡ allowed_request actor r)

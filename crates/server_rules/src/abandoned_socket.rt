@@ -31,8 +31,8 @@ impl FileIdentity {
     }
 }
 
-/// Whether this failure to connect says that nobody listens on the socket any more. Any other failure, such as want of a descriptor or of
-/// permission, says nothing about the server.
+/// Whether this failure to connect says that nobody listens on the socket any more. Any other
+/// failure, such as want of a descriptor or of permission, says nothing about the server.
 pub fn says_abandoned(kind: ErrorKind) -> bool
     ensures abandoned { result ≡ true → kind ≡ ConnectionRefused }
     ensures refused { kind ≡ ConnectionRefused → result ≡ true }

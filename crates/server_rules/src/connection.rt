@@ -1,20 +1,21 @@
-//! A connection: what it asked, what is under way for it (its phase), and the waiters and subscriptions that it made (its standing).
-//! An errand is what a step under way is for, and `Todo` what the caller is to do. docs/PROTOCOL.md has the rules of connections.
+//! A connection: what it asked, what is under way for it (its phase), and the waiters and
+//! subscriptions that it made. An errand is what a step under way is for, and `Todo` what the
+//! caller is to do. docs/PROTOCOL.md has the rules of connections.
 ghost use Rattle.std.specs.Prelude.{◌≡◌, ◌∷◌, [], true, IfSome, IfNone};
 ghost use Rattle.tree_core.specs.declared.input.Act.{Act};
 ghost use Rattle.server_rules.specs.Connection.{View, new_view, ask_next, has_room_on, hands_in, is_ready, leave_next, left_unasked};
 ghost use Rattle.server_rules.specs.NewsTold.{is_for, told_move};
 ghost use Rattle.server_rules.specs.ErrandEnds.{answered_move, answered_errand, left_errand, recorded_move, refuse_errand_move, refuse_next_move};
 ghost use Rattle.server_rules.specs.Begin.{begin_admitted, begin_beside, begin_put_off, begin_first, begin_move, begin_request, ends_by, is_step_first, steps_in};
-ghost use Rattle.server_rules.specs.Standing.{admission_of, has_place, has_room_for, is_told_more, next_end};
+ghost use Rattle.server_rules.specs.Made.{admission_of, has_place, has_room_for, is_told_more, next_end};
 ghost use Rattle.server_rules.specs.declared.phase.Errand.TheVariants as errand;
-ghost use Rattle.server_rules.specs.declared.phase.Phase.TheVariants as phase;
+ghost use Rattle.server_rules.specs.declared.phase.ClientPhase.TheVariants as phase;
 ghost use Rattle.server_rules.specs.declared.requests.Request.TheVariants as request;
 
+use crate::made_things::{Admission, MadeChange, MadeThings};
 use crate::own_answer::OwnAnswer;
-use crate::phase::{Errand, Phase};
+use crate::phase::{ClientPhase, Errand};
 use crate::requests::Request;
-use crate::standing::{Admission, Standing, StandingChange};
 use crate::status_age::is_recent;
 use crate::status_lines::Subject;
 use crate::todo::{Answer, News, Todo};
@@ -24,17 +25,18 @@ use std::marker::Model;
 use std::mem;
 use tree_core::{Act, Reply};
 
-/// How many steps of a connection may be under way together: as many as its ring, where its acts wait to be taken by the tree, holds.
-const STEP_LIMIT: usize = 64;
+/// How many steps of a connection may be under way together: as many as its ring, where its acts
+/// wait to be taken by the tree, holds.
+const UNDER_WAY_LIMIT: usize = 64;
 
-/// A connection: in `phase` what is under way for it, in `asked` the requests that aren't begun, in `standing` what it made and follows. Each
-/// event is a call, which returns what is to be done.
+/// A connection: in `phase` what is under way for it, in `asked` the requests that aren't begun, in
+/// `made` what it made and follows. Each event is a call, which returns what is to be done.
 #[derive(Drop)]
 pub struct Connection {
-    phase: Phase,
+    phase: ClientPhase,
     /// The requests that aren't begun, in the order asked.
     asked: VecDeque<Request, Global>,
-    standing: Standing,
+    made: MadeThings,
 }
 
 impl Model for Connection {
@@ -46,10 +48,10 @@ impl Model for Connection {
     ghost view = { λ c. record {
       phase = c.phase;
       asked = c.asked.items;
-      made = c.standing;
+      made = c.made;
     } };
 
-    ghost invariant = { λ c. has_room_in c.phase c.standing ≡ true };
+    ghost invariant = { λ c. has_room_in c.phase c.made ≡ true };
 }
 
 impl Connection {
@@ -58,15 +60,15 @@ impl Connection {
         ensures { result ≡ new_view }
     {
         Connection {
-            phase: Phase::Idle,
+            phase: ClientPhase::Idle,
             asked: VecDeque::new(alloc),
-            standing: Standing::new(),
+            made: MadeThings::new(),
         }
     }
 
-    /// Takes the requests that have come, in the order asked, if the client has not left and all that it asked before is begun. Else they
-    /// stay in `coming`.
-    pub fn ask(&mut self, coming: &mut Vec<Request>)
+    /// Takes the requests that have come, in the order asked, if the client has not left and all
+    /// that it asked before is begun. Else they stay in `coming`.
+    pub fn receive(&mut self, coming: &mut Vec<Request>)
         ensures next { self.new ≡ ask_next coming.old.items self.old }
         ensures left { coming.new.items ≡ left_unasked coming.old.items self.old }
     {
@@ -77,28 +79,30 @@ impl Connection {
         }
     }
 
-    /// Begins what comes next, if what is under way allows it. `last_step` is the moment of the last step; it and `now` are in milliseconds.
-    /// Nothing is begun while something is under way but steps (`Stepping`), beside which further ones may go on. After the end of a released
-    /// waiter the wait that was put off comes next; for a client that has left (`Leaving`), the end of what it made.
+    /// Begins what comes next, if what is under way allows it. `last_step` is the moment of the
+    /// last step; it and `now` are in milliseconds. Nothing is begun while something is under way
+    /// but steps (`Stepping`), beside which further ones may go on. After the end of a released
+    /// waiter the wait that was put off comes next; for a client that has left (`Leaving`), the end
+    /// of what it made.
     pub fn begin(&mut self, last_step: u64, now: u64) -> Todo
         ensures next { self.new ≡ (begin_move last_step now self.old).next }
         ensures todo { result ≡ (begin_move last_step now self.old).todo }
     {
         match self.phase {
-            Phase::Idle => self.begin_first(last_step, now),
-            Phase::Stepping(count) => self.begin_beside(count),
-            Phase::PutOff => self.begin_put_off(),
-            Phase::Leaving => self.end_next(),
-            Phase::UnderWay(_)
-            | Phase::LeftStepping(_)
-            | Phase::Left(_)
-            | Phase::Cancelling
-            | Phase::Gone => Todo::Nothing,
+            ClientPhase::Idle => self.begin_first(last_step, now),
+            ClientPhase::Stepping(count) => self.begin_beside(count),
+            ClientPhase::PutOff => self.begin_put_off(),
+            ClientPhase::Leaving => self.end_next(),
+            ClientPhase::UnderWay(_)
+            | ClientPhase::LeftStepping(_)
+            | ClientPhase::Left(_)
+            | ClientPhase::Cancelling
+            | ClientPhase::Gone => Todo::Nothing,
         }
     }
 
-    // Begins the request that was asked first. A scan, a record, or a step makes that the connection's errand, and is answered later; the others
-    // are answered at once.
+    // Begins the request that was asked first. A scan, a record, or a step makes that the
+    // connection's errand, and is answered later; the others are answered at once.
     fn begin_first(&mut self, last_step: u64, now: u64) -> Todo
         ensures next { self.new ≡ (begin_first self.old.asked last_step now self.old).next }
         ensures todo { result ≡ (begin_first self.old.asked last_step now self.old).todo }
@@ -110,16 +114,16 @@ impl Connection {
             Request::Step(act) => self.begin_step(act),
             Request::Status(subject) => self.begin_status(subject, last_step, now),
             Request::Scan => {
-                self.phase = Phase::UnderWay(Errand::Scan);
+                self.phase = ClientPhase::UnderWay(Errand::Scan);
                 Todo::Scan
             }
             Request::Record => {
-                self.phase = Phase::UnderWay(Errand::Record);
+                self.phase = ClientPhase::UnderWay(Errand::Record);
                 Todo::Record
             }
             // No step is needed: the letters are told from now on.
             Request::Follow(services) => {
-                self.standing.follow(services);
+                self.made.follow(services);
                 Todo::Give(Answer::Following)
             }
             Request::Clock => Todo::Give(Answer::Clock),
@@ -127,19 +131,20 @@ impl Connection {
         }
     }
 
-    // Begins a step with this act. If it would make a waiter too many and one was released, that one is ended first, and the act is put off until
-    // then. If none was released, or the act would make a subscription too many, the answer is `Busy`. Any other act is handed in at once.
+    // Begins a step with this act. If it would make a waiter too many and one was released, that
+    // one is ended first, and the act is put off until then. If none was released, or the act would
+    // make a subscription too many, the answer is `Busy`. Any other act is handed in at once.
     fn begin_step(&mut self, act: Act<Global>) -> Todo
         ensures next { self.new ≡ (begin_admitted
             (admission_of act self.old.made) act self.old).next }
         ensures todo { result ≡ (begin_admitted
             (admission_of act self.old.made) act self.old).todo }
     {
-        match self.standing.admission(&act) {
-            Admission::Admitted => self.hand_in_step(StandingChange::of(&act), act),
-            Admission::AfterReleased => match self.standing.take_released() {
+        match self.made.admission(&act) {
+            Admission::Admitted => self.hand_in_step(MadeChange::of(&act), act),
+            Admission::AfterReleased => match self.made.take_released() {
                 Some(id) => {
-                    self.standing.put_off(act);
+                    self.made.put_off(act);
                     self.hand_in(Errand::Replacement, Act::Cancel(id))
                 }
                 // This never comes: `AfterReleased` says that there is one.
@@ -149,50 +154,52 @@ impl Connection {
         }
     }
 
-    // Hands in an act; `change` is what it makes or ends. Where that is no waiter and no subscription, further such steps may go on beside it.
-    fn hand_in_step(&mut self, change: StandingChange, act: Act<Global>) -> Todo
+    // Hands in an act; `change` is what it makes or ends. Where that is no waiter and no
+    // subscription, further such steps may go on beside it.
+    fn hand_in_step(&mut self, change: MadeChange, act: Act<Global>) -> Todo
         requires { has_room_for change self.old.made ≡ true }
         ensures next { self.new ≡ (steps_in change 0 act self.old).next }
         ensures todo { result ≡ (steps_in change 0 act self.old).todo }
     {
-        if change == StandingChange::Other {
-            self.phase = Phase::Stepping(1);
+        if change == MadeChange::Other {
+            self.phase = ClientPhase::Stepping(1);
             return Todo::Submit(act);
         }
         self.hand_in(Errand::Step(change), act)
     }
 
-    // Hands in the act that was put off, which is a wait: a released waiter has ended, so there is room for one more.
+    // Hands in the act that was put off, which is a wait: a released waiter has ended, so there is
+    // room for one more.
     fn begin_put_off(&mut self) -> Todo
         requires { has_place self.old.made ≡ true }
         ensures next { self.new ≡ (begin_put_off self.old.made.put_off self.old).next }
         ensures todo { result ≡ (begin_put_off self.old.made.put_off self.old).todo }
     {
-        match self.standing.take_put_off() {
-            Some(act) => self.hand_in(Errand::Step(StandingChange::MakesWaiter), act),
+        match self.made.take_put_off() {
+            Some(act) => self.hand_in(Errand::Step(MadeChange::MakesWaiter), act),
             // This never comes: the phase is `PutOff` only while an act is put off.
             None => {
-                self.phase = Phase::Idle;
+                self.phase = ClientPhase::Idle;
                 Todo::Give(Answer::Own(OwnAnswer::Busy))
             }
         }
     }
 
-    // Begins the next request beside the `count` steps that are under way, if it is a step that neither makes nor ends a waiter or a
-    // subscription, and fewer than 64 are under way.
+    // Begins the next request beside the `count` steps that are under way, if it is a step that
+    // neither makes nor ends a waiter or a subscription, and fewer than 64 are under way.
     fn begin_beside(&mut self, count: usize) -> Todo
         requires { self.old.phase ≡ phase.Stepping count }
         ensures next { self.new ≡ (begin_beside count self.old).next }
         ensures todo { result ≡ (begin_beside count self.old).todo }
     {
-        if count >= STEP_LIMIT || !self.is_step_next() {
+        if count >= UNDER_WAY_LIMIT || !self.is_step_next() {
             return Todo::Nothing;
         }
         let Some(Request::Step(act)) = self.asked.pop_front() else {
             // `is_step_next` has just said that a step is next.
             unreachable!()
         };
-        self.phase = Phase::Stepping(count + 1);
+        self.phase = ClientPhase::Stepping(count + 1);
         Todo::Submit(act)
     }
 
@@ -201,13 +208,14 @@ impl Connection {
         ensures { result ≡ is_step_first self.now.asked }
     {
         match self.asked.front() {
-            Some(Request::Step(act)) => StandingChange::of(act) == StandingChange::Other,
+            Some(Request::Step(act)) => MadeChange::of(act) == MadeChange::Other,
             _ => false,
         }
     }
 
-    // Begins a request for the status of services: answers it at once where the last step, at the moment `last_step`, is recent at `now`. Else it
-    // hands in a tick first: after that step the status is of now. Both moments are in milliseconds.
+    // Begins a request for the status of services: answers it at once where the last step, at the
+    // moment `last_step`, is recent at `now`. Else it hands in a tick first: after that step the
+    // status is of now. Both moments are in milliseconds.
     fn begin_status(&mut self, subject: Subject, last_step: u64, now: u64) -> Todo
         ensures next { self.new ≡ (begin_request
             (request.Status subject) last_step now self.old).next }
@@ -220,75 +228,79 @@ impl Connection {
         self.hand_in(Errand::Status(subject), Act::Tick)
     }
 
-    // Hands in an act as the only thing that is under way for the connection; `errand` says what its reply is for.
+    // Hands in an act as the only thing that is under way for the connection; `errand` says what
+    // its reply is for.
     fn hand_in(&mut self, errand: Errand, act: Act<Global>) -> Todo
         requires { has_room_on errand self.old.made ≡ true }
         ensures next { self.new ≡ (hands_in errand act self.old).next }
         ensures todo { result ≡ (hands_in errand act self.old).todo }
     {
-        self.phase = Phase::UnderWay(errand);
+        self.phase = ClientPhase::UnderWay(errand);
         Todo::Submit(act)
     }
 
-    // Ends the next of the waiters and subscriptions that it made, for a client that has left. Where none is left, it follows nobody any more, and
-    // the connection is gone.
+    // Ends the next of the waiters and subscriptions that it made, for a client that has left.
+    // Where none is left, it follows nobody any more, and the connection is gone.
     fn end_next(&mut self) -> Todo
         ensures next { self.new ≡ (ends_by (next_end self.old.made) self.old).next }
         ensures todo { result ≡ (ends_by (next_end self.old.made) self.old).todo }
     {
-        match self.standing.take_next() {
+        match self.made.take_next() {
             Some(act) => {
-                self.phase = Phase::Cancelling;
+                self.phase = ClientPhase::Cancelling;
                 Todo::Submit(act)
             }
             None => {
-                self.standing.let_go();
-                self.phase = Phase::Gone;
+                self.made.let_go();
+                self.phase = ClientPhase::Gone;
                 Todo::Free
             }
         }
     }
 
-    /// Takes the reply to the step, or to the scan, that was under way. Where several steps are, it is that to the first of them, and one less is
-    /// under way. For a client that has left nothing is posted.
+    /// Takes the reply to the step, or to the scan, that was under way. Where several steps are, it
+    /// is that to the first of them, and one less is under way. For a client that has left nothing
+    /// is posted.
     pub fn answered(&mut self, reply: &Reply<Global>) -> Todo
         ensures next { self.new ≡ (answered_move reply.now self.old).next }
         ensures todo { result ≡ (answered_move reply.now self.old).todo }
     {
         match self.phase {
-            Phase::Stepping(count) => {
+            ClientPhase::Stepping(count) => {
                 self.phase = if count < 2 {
-                    Phase::Idle
+                    ClientPhase::Idle
                 } else {
-                    Phase::Stepping(count - 1)
+                    ClientPhase::Stepping(count - 1)
                 };
                 Todo::Give(Answer::TheReply)
             }
-            Phase::UnderWay(errand) => self.finish(errand, reply),
-            Phase::LeftStepping(count) => {
+            ClientPhase::UnderWay(errand) => self.finish(errand, reply),
+            ClientPhase::LeftStepping(count) => {
                 self.phase = if count < 2 {
-                    Phase::Leaving
+                    ClientPhase::Leaving
                 } else {
-                    Phase::LeftStepping(count - 1)
+                    ClientPhase::LeftStepping(count - 1)
                 };
                 Todo::Nothing
             }
-            Phase::Left(errand) => {
+            ClientPhase::Left(errand) => {
                 self.finish_left(errand, reply);
                 Todo::Nothing
             }
-            // One thing that the client made, and left behind, has ended: `begin` ends the next one.
-            Phase::Cancelling => {
-                self.phase = Phase::Leaving;
+            // One thing that the client made, and left behind, has ended: `begin` ends the next
+            // one.
+            ClientPhase::Cancelling => {
+                self.phase = ClientPhase::Leaving;
                 Todo::Nothing
             }
             // Nothing is under way, so no reply is awaited.
-            Phase::Idle | Phase::PutOff | Phase::Leaving | Phase::Gone => Todo::Nothing,
+            ClientPhase::Idle | ClientPhase::PutOff | ClientPhase::Leaving | ClientPhase::Gone =>
+                Todo::Nothing,
         }
     }
 
-    // Takes the reply to what was under way by itself: from then on nothing is (`Idle`), but after a `Replacement`. A record is not answered by a
-    // reply, but by `recorded`.
+    // Takes the reply to what was under way by itself: from then on nothing is (`Idle`), but after
+    // a `Replacement`. A record is not answered by a reply, but by `recorded`.
     fn finish(&mut self, errand: Errand, reply: &Reply<Global>) -> Todo
         requires room { has_room_on errand self.old.made ≡ true }
         requires under { self.old.phase ≡ phase.UnderWay errand }
@@ -297,28 +309,29 @@ impl Connection {
     {
         match errand {
             Errand::Step(change) => {
-                self.phase = Phase::Idle;
-                self.standing.note_reply(change, reply);
+                self.phase = ClientPhase::Idle;
+                self.made.note_reply(change, reply);
                 Todo::Give(Answer::TheReply)
             }
             Errand::Scan => {
-                self.phase = Phase::Idle;
+                self.phase = ClientPhase::Idle;
                 Todo::Give(Answer::TheReply)
             }
             Errand::Status(subject) => {
-                self.phase = Phase::Idle;
+                self.phase = ClientPhase::Idle;
                 Todo::Give(Answer::Status(subject))
             }
             // The released waiter has ended; the wait that was put off is begun next.
             Errand::Replacement => {
-                self.phase = Phase::PutOff;
+                self.phase = ClientPhase::PutOff;
                 Todo::Nothing
             }
             Errand::Record => Todo::Nothing,
         }
     }
 
-    // Takes the reply to what was under way by itself, for a client that has left: nothing is posted. A record is ended by `recorded`.
+    // Takes the reply to what was under way by itself, for a client that has left: nothing is
+    // posted. A record is ended by `recorded`.
     fn finish_left(&mut self, errand: Errand, reply: &Reply<Global>)
         requires room { has_room_on errand self.old.made ≡ true }
         requires under { self.old.phase ≡ phase.Left errand }
@@ -326,59 +339,63 @@ impl Connection {
     {
         match errand {
             Errand::Step(change) => {
-                self.phase = Phase::Leaving;
+                self.phase = ClientPhase::Leaving;
                 // What the step made is noted, so that it is ended too.
-                self.standing.note_reply(change, reply);
+                self.made.note_reply(change, reply);
             }
-            Errand::Scan | Errand::Status(_) | Errand::Replacement => self.phase = Phase::Leaving,
+            Errand::Scan | Errand::Status(_) | Errand::Replacement => {
+                self.phase = ClientPhase::Leaving
+            }
             Errand::Record => {}
         }
     }
 
-    /// The run that was to be recorded is in the record, which has `steps` steps now. Nothing changes where the connection waits for no record,
-    /// and nothing is posted where its client has left (`Left`).
+    /// The run that was to be recorded is in the record, which has `steps` steps now. Nothing
+    /// changes where the connection waits for no record, and nothing is posted where its client has
+    /// left (`Left`).
     pub fn recorded(&mut self, steps: u64) -> Todo
         ensures next { self.new ≡ (recorded_move steps self.old).next }
         ensures todo { result ≡ (recorded_move steps self.old).todo }
     {
         match self.phase {
-            Phase::UnderWay(Errand::Record) => {
-                self.phase = Phase::Idle;
+            ClientPhase::UnderWay(Errand::Record) => {
+                self.phase = ClientPhase::Idle;
                 Todo::Give(Answer::Recorded(steps))
             }
-            Phase::Left(Errand::Record) => {
-                self.phase = Phase::Leaving;
+            ClientPhase::Left(Errand::Record) => {
+                self.phase = ClientPhase::Leaving;
                 Todo::Nothing
             }
             _ => Todo::Nothing,
         }
     }
 
-    /// The scan, or the record, that is under way can't be made, for this reason. Nothing changes where neither is under way, and nothing is
-    /// posted where the client has left (`Left`).
+    /// The scan, or the record, that is under way can't be made, for this reason. Nothing changes
+    /// where neither is under way, and nothing is posted where the client has left (`Left`).
     pub fn refuse_errand(&mut self, reason: OwnAnswer) -> Todo
         ensures next { self.new ≡ (refuse_errand_move reason self.old).next }
         ensures todo { result ≡ (refuse_errand_move reason self.old).todo }
     {
         match self.phase {
-            Phase::UnderWay(Errand::Scan | Errand::Record) => {
-                self.phase = Phase::Idle;
+            ClientPhase::UnderWay(Errand::Scan | Errand::Record) => {
+                self.phase = ClientPhase::Idle;
                 Todo::Give(Answer::Own(reason))
             }
-            Phase::Left(Errand::Scan | Errand::Record) => {
-                self.phase = Phase::Leaving;
+            ClientPhase::Left(Errand::Scan | Errand::Record) => {
+                self.phase = ClientPhase::Leaving;
                 Todo::Nothing
             }
             _ => Todo::Nothing,
         }
     }
 
-    /// No step can be made now. The reason answers the request that was asked first, if there is one and the connection is idle.
+    /// No step can be made now. The reason answers the request that was asked first, if there is
+    /// one and the connection is idle.
     pub fn refuse_next(&mut self, reason: OwnAnswer) -> Todo
         ensures next { self.new ≡ (refuse_next_move reason self.old).next }
         ensures todo { result ≡ (refuse_next_move reason self.old).todo }
     {
-        if !matches!(self.phase, Phase::Idle) {
+        if !matches!(self.phase, ClientPhase::Idle) {
             return Todo::Nothing;
         }
         match self.asked.pop_front() {
@@ -387,21 +404,21 @@ impl Connection {
         }
     }
 
-    /// Whether it is to be told the news: they are of its subscription, of its waiter, or of a service that it follows, and it has not
-    /// left.
+    /// Whether it is to be told the news: they are of its subscription, of its waiter, or of a
+    /// service that it follows, and it has not left.
     pub fn is_for(&self, news: &News) -> bool
         ensures { result ≡ is_for news.now self.now }
     {
         self.phase.is_here()
             && match news {
-                News::Match(found) => self.standing.has_subscription(found.subscription),
-                News::Release(release) => self.standing.has_waiter(release.waiter),
-                News::Letter(letter) => self.standing.is_followed(&letter.name),
+                News::Match(found) => self.made.has_subscription(found.subscription),
+                News::Release(release) => self.made.has_waiter(release.waiter),
+                News::Letter(letter) => self.made.is_followed(&letter.name),
             }
     }
 
-    /// Takes news, which may be for another connection: `Tell` where they are for this one, else `Nothing`. A waiter whose release is told waits
-    /// no more: it moves to the released ones.
+    /// Takes news, which may be for another connection: `Tell` where they are for this one, else
+    /// `Nothing`. A waiter whose release is told waits no more: it moves to the released ones.
     pub fn told(&mut self, news: &News) -> Todo
         ensures next { self.new ≡ (told_move news.now self.old).next }
         ensures todo { result ≡ (told_move news.now self.old).todo }
@@ -410,12 +427,13 @@ impl Connection {
             return Todo::Nothing;
         }
         if let News::Release(release) = news {
-            self.standing.note_release(release.waiter);
+            self.made.note_release(release.waiter);
         }
         Todo::Tell
     }
 
-    /// The client leaves. Its requests that aren't begun are dropped. What is under way goes on, and what it made is ended after that.
+    /// The client leaves. Its requests that aren't begun are dropped. What is under way goes on,
+    /// and what it made is ended after that.
     pub fn leave(&mut self)
         ensures { self.new ≡ leave_next self.old }
     {
@@ -424,20 +442,20 @@ impl Connection {
         }
         self.asked.clear();
         self.phase = match self.phase {
-            Phase::Stepping(count) => Phase::LeftStepping(count),
-            Phase::UnderWay(errand) => Phase::Left(errand),
-            _ => Phase::Leaving,
+            ClientPhase::Stepping(count) => ClientPhase::LeftStepping(count),
+            ClientPhase::UnderWay(errand) => ClientPhase::Left(errand),
+            _ => ClientPhase::Leaving,
         };
     }
 
-    /// Whether nothing is under way for it, and there is something to begin: a request, a wait that was put off, or, once its client has left, the
-    /// end of what it made.
+    /// Whether nothing is under way for it, and there is something to begin: a request, a wait that
+    /// was put off, or, once its client has left, the end of what it made.
     pub fn is_ready(&self) -> bool
         ensures { result ≡ is_ready self.now }
     {
         match self.phase {
-            Phase::Idle => !self.asked.is_empty(),
-            Phase::PutOff | Phase::Leaving => true,
+            ClientPhase::Idle => !self.asked.is_empty(),
+            ClientPhase::PutOff | ClientPhase::Leaving => true,
             _ => false,
         }
     }
@@ -446,6 +464,6 @@ impl Connection {
     pub fn is_told_more(&self) -> bool
         ensures { result ≡ is_told_more self.now.made }
     {
-        self.standing.is_told_more()
+        self.made.is_told_more()
     }
 }

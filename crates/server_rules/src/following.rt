@@ -1,6 +1,6 @@
 //! Whose letters a connection follows.
 ghost use Rattle.std.specs.Prelude.{◌≡◌};
-ghost use Rattle.server_rules.specs.Standing.{follows_any, is_followed};
+ghost use Rattle.server_rules.specs.Made.{follows_any, is_followed};
 
 use s6_events::Name;
 

@@ -1,4 +1,5 @@
-//! The services for which a scan had no room, so that each is told once, and not again as long as that lasts.
+//! The services for which a scan had no room, so that each is told once, and not again as long as
+//! that lasts.
 use s6_events::Name;
 use std::alloc::{AllocError, Global};
 use std::{mem, str};
@@ -25,8 +26,9 @@ impl FullServices {
         self.names.as_slice().contains(name)
     }
 
-    /// Takes in what a scan found. Returns a line `svscan: NAME full` for each service for which it had no room, except those that the scan
-    /// before had no room for either. Where memory is refused, it still remembers the scan before.
+    /// Takes in what a scan found. Returns a line `svscan: NAME full` for each service for which it
+    /// had no room, except those that the scan before had no room for either. Where memory is
+    /// refused, it still remembers the scan before.
     pub fn lines_of(&mut self, listed: &[Listed]) -> Result<Vec<u8>, AllocError> {
         let mut lines = Vec::new(self.alloc);
         let mut names = Vec::new(self.alloc);

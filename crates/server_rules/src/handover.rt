@@ -1,15 +1,17 @@
-//! When a run takes inputs, when it ends, and what comes after each round: a pass of the driver, which makes the steps, over all that is to be done.
+//! When a run takes inputs, when it ends, and what comes after each round, which is one iteration
+//! of the driver's loop.
 ghost use Rattle.std.specs.Prelude.{◌≡◌, [], None, false};
 ghost use Rattle.server_rules.specs.Handover.{after_ending, after_round, after_steps, ends_early, has_carried_all, is_busy_lane, last_step, retry_time, takes_inputs, until_due};
 
-use crate::places::LANE_COUNT;
+use crate::places::LANE_LIMIT;
 use arrayvec::ArrayVec;
 
-/// For how many steps past its handover a run takes inputs, while a lane takes no order. The run has room for what is in the rings after
-/// that, too.
+/// For how many steps past its handover a run takes inputs, while a lane takes no order. The run
+/// has room for what is in the rings after that, too.
 const SPARE_STEPS: u64 = 1_024;
 
-/// How long the driver waits after a lane or the system refused something, in milliseconds. A lane rings sooner, if it can.
+/// How long the driver waits after a lane or the system refused something, in milliseconds. A lane
+/// rings sooner, if it can.
 pub const RETRY_WAIT: u64 = 100;
 
 /// Why the driver stops driving a run.
@@ -41,7 +43,8 @@ pub enum Halt {
 pub enum After {
     /// There is more to do at once.
     GoOn,
-    /// Nothing until somebody rings or, where a number is given, that many milliseconds have passed.
+    /// Nothing until somebody rings or, where a number is given, that many milliseconds have
+    /// passed.
     Wait(Option<u64>),
     /// The run is driven no more.
     Stop(RunEnd),
@@ -53,7 +56,7 @@ pub struct Carrying {
     /// Whether some lane has more to carry.
     pub has_more: bool,
     /// The lanes that take no order now.
-    pub busy: ArrayVec<usize, LANE_COUNT>,
+    pub busy: ArrayVec<usize, LANE_LIMIT>,
 }
 
 impl Carrying {
@@ -63,9 +66,7 @@ impl Carrying {
         ensures busy { result.busy.items ≡ [] }
     {
         Carrying {
-            // Whether a lane may have more to carry.
             has_more: false,
-            // The lanes that take no order now.
             busy: ArrayVec::new(),
         }
     }
@@ -85,8 +86,9 @@ impl Carrying {
     }
 }
 
-/// What a round has found. `is_open`: the run took inputs. `is_full`: a ring was full before all reports were handed in. `has_more`: a
-/// connection has more to begin, or waits for a scan that can begin. `due`: the next moment to which a timer or a deadline is set.
+/// What a round has found. `is_open`: the run took inputs. `is_full`: a ring was full before all
+/// reports were handed in. `has_more`: a connection has more to begin, or waits for a scan that can
+/// begin. `due`: the next moment to which a timer or a deadline is set.
 #[derive(Drop)]
 pub struct Round {
     /// The moment at which it began, in milliseconds.
@@ -107,8 +109,8 @@ pub struct Round {
 }
 
 impl Round {
-    // For how many milliseconds nothing is due; None where nothing will be. In a run that takes no inputs nothing is due, since it makes no
-    // tick.
+    // For how many milliseconds nothing is due; None where nothing will be. In a run that takes no
+    // inputs nothing is due, since it makes no tick.
     fn until_due(&self) -> Option<u64>
         ensures { result ≡ until_due self.now }
     {
@@ -118,7 +120,8 @@ impl Round {
         }
     }
 
-    // How many milliseconds the driver waits after something was refused: 100, or fewer where something is due before.
+    // How many milliseconds the driver waits after something was refused: 100, or fewer where
+    // something is due before.
     fn retry_time(&self) -> u64
         ensures { result ≡ retry_time self.now }
     {
@@ -128,8 +131,9 @@ impl Round {
         }
     }
 
-    /// What comes after a round while all services are told to end, and no connection is served. Reports that found no room, and orders that are
-    /// left, are gone on with at once; else it waits a little.
+    /// What comes after a round while all services are told to end, and no connection is served.
+    /// Reports that found no room, and orders that are left, are gone on with at once; else it
+    /// waits a little.
     pub fn after_ending(&self) -> After
         ensures { result ≡ after_ending self.now }
     {
@@ -142,15 +146,17 @@ impl Round {
     }
 }
 
-/// How many steps a run has, and after how many it ends: `handover`, or `record_from` where somebody waits for it to be recorded. While
-/// `is_lane_busy`, inputs are taken for some steps more.
+/// How many steps a run has, and after how many it ends: `handover`, or `record_from` where
+/// somebody waits for it to be recorded. While `is_lane_busy`, inputs are taken for some steps
+/// more.
 #[derive(Clone, Copy, PartialEq, Eq, Debug)]
 pub struct Pace {
     /// How many steps of the run were handed out.
     pub steps: u64,
     /// After how many steps the run ends and the next one goes on.
     pub handover: u64,
-    /// After how many steps the run ends early, because somebody waits for it to be recorded; None where nobody does.
+    /// After how many steps the run ends early, because somebody waits for it to be recorded; None
+    /// where nobody does.
     pub record_from: Option<u64>,
     /// Whether a lane took no order when it was last asked.
     pub is_lane_busy: bool,
@@ -170,8 +176,8 @@ impl Pace {
         }
     }
 
-    /// Somebody waits for the run to be recorded: it ends after the steps that it has now, once nothing is left to be done in it. If it is to end
-    /// early already, nothing changes.
+    /// Somebody waits for the run to be recorded: it ends after the steps that it has now, once
+    /// nothing is left to be done in it. If it is to end early already, nothing changes.
     pub fn end_early(&mut self)
         ensures { self.new ≡ ends_early self.old }
     {
@@ -180,7 +186,8 @@ impl Pace {
         }
     }
 
-    // After how many steps the run ends: at the handover, or earlier where somebody waits for it to be recorded.
+    // After how many steps the run ends: at the handover, or earlier where somebody waits for it to
+    // be recorded.
     fn last_step(&self) -> u64
         ensures { result ≡ last_step self.now }
     {
@@ -190,7 +197,8 @@ impl Pace {
         }
     }
 
-    /// Whether inputs are handed in: until the run has its last step and, while a lane takes no order, up to 1,024 steps past the handover.
+    /// Whether inputs are handed in: until the run has its last step and, while a lane takes no
+    /// order, up to 1,024 steps past the handover.
     pub fn takes_inputs(&self) -> bool
         ensures { result ≡ takes_inputs self.now }
     {
@@ -211,8 +219,9 @@ impl Pace {
         }
     }
 
-    // What comes after a round in which all steps were made. The run ends once the tree has ended, or once it has its last step and no lane has an
-    // order left. It goes on at once where a lane has more to carry, where reports found no room (`is_full`), or where a connection has more to
+    // What comes after a round in which all steps were made. The run ends once the tree has ended,
+    // or once it has its last step and no lane has an order left. It goes on at once where a lane
+    // has more to carry, where reports found no room (`is_full`), or where a connection has more to
     // begin.
     fn after_steps(&self, round: &Round) -> After
         ensures { result ≡ after_steps self.now round.now }

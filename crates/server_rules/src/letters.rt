@@ -6,7 +6,8 @@ use s6_events::{At, Mark, Name, Sid};
 use s6_script::push_number;
 use std::alloc::{AllocError, Global};
 
-/// A letter of a service: what its supervisor writes to the event directory (`s`, `u`, `U`, `d`, `D`, `O` or `x`), and when.
+/// A letter of a service: what its supervisor writes to the event directory (`s`, `u`, `U`, `d`,
+/// `D`, `O` or `x`), and when.
 #[derive(Clone, Copy, Debug, PartialEq, Eq)]
 pub struct ToldLetter {
     /// The tree's clock when it was told.

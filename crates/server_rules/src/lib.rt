@@ -1,6 +1,8 @@
-//! What the server of a tree decides, with no thread of its own: what a line asks for, who each actor is, when a tick or a scan is wanted,
-//! what is done for a connection at each event, what a step posts to whom, which rows may be told and in which state a service is, when a
-//! run takes inputs and when it ends, which socket is abandoned, and what is told of a tree that did not run to its end.
+//! What the server of a tree decides, with no thread of its own: what a line asks for, who each
+//! actor is, when a tick or a scan is wanted, what is done for a connection at each event, what a
+//! step posts to whom, which rows may be told and in which state a service is, when a run takes
+//! inputs and when it ends, which socket is abandoned, and what is told of a tree that did not run
+//! to its end. The driver is the thread that drives the tree's runs.
 #![tactic(auto)]
 
 mod abandoned_socket;
@@ -9,6 +11,7 @@ mod following;
 mod full_services;
 mod handover;
 mod letters;
+mod made_things;
 mod own_answer;
 mod phase;
 mod places;
@@ -18,7 +21,6 @@ mod requests;
 mod roster;
 mod row_cache;
 mod serve_fault;
-mod standing;
 mod state_word;
 mod status_age;
 mod status_lines;
@@ -33,10 +35,13 @@ pub use following::Following;
 pub use full_services::FullServices;
 pub use handover::{After, Carrying, Halt, Pace, RETRY_WAIT, Round, RunEnd};
 pub use letters::ToldLetter;
+pub use made_things::{
+    Admission, CLIENT_SUBSCRIPTION_LIMIT, CLIENT_WAITER_LIMIT, MadeChange, MadeThings,
+};
 pub use own_answer::OwnAnswer;
-pub use phase::{Errand, Phase};
+pub use phase::{ClientPhase, Errand};
 pub use places::{
-    ACTOR_COUNT, FIRST_CLIENT, FIRST_LANE, LANE_COUNT, Place, SCANNER, client_actor, place_of,
+    ACTOR_COUNT, FIRST_CLIENT, FIRST_LANE, LANE_LIMIT, Place, SCANNER, client_actor, place_of,
 };
 pub use plans::{Askers, Plans, Wanted};
 pub use recipients::{Line, Post, askers_of, hand_out};
@@ -44,7 +49,6 @@ pub use requests::{Request, read_request};
 pub use roster::{Ending, Member, Roster};
 pub use row_cache::RowCache;
 pub use serve_fault::{ServeFault, tell_serve_fault};
-pub use standing::{Admission, SUBSCRIPTION_LIMIT, Standing, StandingChange, WAITER_LIMIT};
 pub use state_word::{StateWord, state_of};
 pub use status_age::is_recent;
 pub use status_lines::Subject;

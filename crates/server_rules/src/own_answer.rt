@@ -2,7 +2,8 @@
 ghost use Rattle.std.specs.Prelude.{◌≡◌};
 ghost use Rattle.server_rules.specs.Answers.{own_text};
 
-/// Why the server answers a line itself, and hands nothing in. Each is told as `refused` and its name.
+/// Why the server answers a line itself, and hands nothing in. Each is told as `refused` and its
+/// name.
 #[derive(Clone, Copy, Debug, PartialEq, Eq)]
 pub enum OwnAnswer {
     /// The line is no request.
@@ -11,8 +12,8 @@ pub enum OwnAnswer {
     Pattern,
     /// The ring of the scanner, by which scans are handed in, is full.
     Full,
-    /// The connection has the last seat, where nobody may wait, subscribe or follow; or it has as many waiters or subscriptions as it may
-    /// have.
+    /// The connection has the last slot, where nobody may wait, subscribe or follow; or it has as
+    /// many waiters or subscriptions as it may have.
     Busy,
     /// Memory was refused.
     NoMemory,

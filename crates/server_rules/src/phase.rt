@@ -2,30 +2,32 @@
 ghost use Rattle.std.specs.Prelude.{◌≡◌};
 ghost use Rattle.server_rules.specs.Connection.{is_here};
 
-use crate::standing::StandingChange;
+use crate::made_things::MadeChange;
 use crate::status_lines::Subject;
 
 /// What a step, a scan or a handover that is under way for a connection is for.
 #[derive(Clone, Copy, PartialEq, Eq, Debug)]
 pub enum Errand {
     /// A step that it asked for, with what the step makes or ends: the reply is the answer.
-    Step(StandingChange),
+    Step(MadeChange),
     /// A tick, after which the status of these services is told.
     Status(Subject),
     /// A scan of the directory, whose reply is the answer.
     Scan,
     /// A handover of the run, after which the record has all steps.
     Record,
-    /// The end of a released waiter, which makes place for the waiter that the connection asked for.
+    /// The end of a released waiter, which makes place for the waiter that the connection asked
+    /// for.
     Replacement,
 }
 
 /// The phase of a connection: what is under way for it, and whether its client has left.
 #[derive(Clone, Copy, PartialEq, Eq, Debug)]
-pub enum Phase {
+pub enum ClientPhase {
     /// Nothing of it is under way. What it asked waits its turn.
     Idle,
-    /// This many steps that it asked for are under way. None of them makes or ends a waiter or a subscription.
+    /// This many steps that it asked for are under way. None of them makes or ends a waiter or a
+    /// subscription.
     Stepping(usize),
     /// This errand is under way, and nothing beside it.
     UnderWay(Errand),
@@ -39,22 +41,25 @@ pub enum Phase {
     Leaving,
     /// It left, and a step is under way that ends a waiter or a subscription of it.
     Cancelling,
-    /// It left, and all that it made is ended: its seat is free.
+    /// It left, and all that it made is ended: its slot is free.
     Gone,
 }
 
-impl Phase {
+impl ClientPhase {
     /// Whether the client has not left.
     pub fn is_here(&self) -> bool
         ensures { result ≡ is_here self.now }
     {
         match self {
-            Phase::Idle | Phase::Stepping(_) | Phase::UnderWay(_) | Phase::PutOff => true,
-            Phase::LeftStepping(_)
-            | Phase::Left(_)
-            | Phase::Leaving
-            | Phase::Cancelling
-            | Phase::Gone => false,
+            ClientPhase::Idle
+            | ClientPhase::Stepping(_)
+            | ClientPhase::UnderWay(_)
+            | ClientPhase::PutOff => true,
+            ClientPhase::LeftStepping(_)
+            | ClientPhase::Left(_)
+            | ClientPhase::Leaving
+            | ClientPhase::Cancelling
+            | ClientPhase::Gone => false,
         }
     }
 }

@@ -1,12 +1,13 @@
-//! Who each actor is, by its number: 0 the scanner (scans and ticks), 1 to 4 the lanes (reports), from 5 on the connections, by their seats.
+//! Who each actor is, by its number: 0 the scanner (scans and ticks), 1 to 4 the lanes (reports),
+//! from 5 on the connections, by their slots.
 ghost use Rattle.std.specs.Prelude.{◌≡◌};
 ghost use Rattle.server_rules.specs.Places.{place_of, client_actor};
 
-use line_server::SEAT_COUNT;
+use line_server::SLOT_COUNT;
 use s6_events::Actor;
 
 /// How many lanes there are.
-pub const LANE_COUNT: usize = 4;
+pub const LANE_LIMIT: usize = 4;
 
 /// The actor of scans and ticks.
 pub const SCANNER: usize = 0;
@@ -14,13 +15,13 @@ pub const SCANNER: usize = 0;
 /// The actor of the first lane; those of the others follow.
 pub const FIRST_LANE: usize = 1;
 
-/// The actor of the connection on the first seat; those of the others follow.
-pub const FIRST_CLIENT: usize = FIRST_LANE + LANE_COUNT;
+/// The actor of the connection on the first slot; those of the others follow.
+pub const FIRST_CLIENT: usize = FIRST_LANE + LANE_LIMIT;
 
 /// How many actors there are.
-pub const ACTOR_COUNT: usize = FIRST_CLIENT + SEAT_COUNT;
+pub const ACTOR_COUNT: usize = FIRST_CLIENT + SLOT_COUNT;
 
-/// The actor of the connection on the last seat, which is kept for short requests.
+/// The actor of the connection on the last slot, which is kept for short requests.
 pub const LAST_CLIENT: usize = ACTOR_COUNT - 1;
 
 /// Who an actor is.
@@ -30,7 +31,7 @@ pub enum Place {
     Scanner,
     /// It hands in the reports of this lane.
     Lane(usize),
-    /// It hands in the requests of the connection on this seat.
+    /// It hands in the requests of the connection on this slot.
     Client(usize),
 }
 
@@ -48,12 +49,12 @@ pub fn place_of(actor: Actor) -> Place
     }
 }
 
-/// The actor of the connection on this seat; None where there is no such seat.
-pub fn client_actor(seat: usize) -> Option<Actor>
-    ensures { result ≡ client_actor seat }
+/// The actor of the connection on this slot; None where there is no such slot.
+pub fn client_actor(slot: usize) -> Option<Actor>
+    ensures { result ≡ client_actor slot }
 {
-    if seat < SEAT_COUNT {
-        Actor::new((FIRST_CLIENT + seat) as u8)
+    if slot < SLOT_COUNT {
+        Actor::new((FIRST_CLIENT + slot) as u8)
     } else {
         None
     }

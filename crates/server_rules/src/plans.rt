@@ -1,13 +1,15 @@
-//! What is planned for actor 0, the scanner: scans that clients asked for (`askers`; the scan under way is for `served`), and ticks for timers.
+//! What is planned for actor 0, the scanner: scans that clients asked for (`askers`; the scan under
+//! way is for `served`), and ticks for timers.
 ghost use Rattle.std.specs.Prelude.{◌≡◌, [], true, false};
 ghost use Rattle.server_rules.specs.Plans.{is_called, wanted_at};
 
 use arrayvec::ArrayVec;
-use line_server::SEAT_COUNT;
+use line_server::SLOT_COUNT;
 use std::mem;
 
-/// The seats of clients that asked for a scan. A client has one scan under way at most, so a seat is listed once at most.
-pub type Askers = ArrayVec<usize, SEAT_COUNT>;
+/// The slots of clients that asked for a scan. A client has one scan under way at most, so a slot
+/// is listed once at most.
+pub type Askers = ArrayVec<usize, SLOT_COUNT>;
 
 /// What actor 0 is to hand in at a moment.
 #[derive(Clone, Copy, PartialEq, Eq, Debug)]
@@ -22,16 +24,17 @@ pub enum Wanted {
     Scan,
 }
 
-/// What is planned for actor 0: when the next tick is due, who waits for a scan that isn't begun (`askers`), and for whom the scan that is under
-/// way is made (`served`).
+/// What is planned for actor 0: when the next tick is due, who waits for a scan that isn't begun
+/// (`askers`), and for whom the scan that is under way is made (`served`).
 #[derive(Drop)]
 pub struct Plans {
-    /// The moment to which a timer or a deadline is set, in milliseconds. A tick before it changes nothing but the clock
-    /// (`tree_core::laws::sleep`), so nobody has to wake before it.
+    /// The moment to which a timer or a deadline is set, in milliseconds. A tick before it changes
+    /// nothing but the clock (`tree_core::laws::sleep`), so nobody has to wake before it.
     pub due: Option<u64>,
     /// Those who wait for a scan that isn't begun.
     pub askers: Askers,
-    /// Whether a scan is under way: the directory is read, or the scan is handed in and not answered.
+    /// Whether a scan is under way: the directory is read, or the scan is handed in and not
+    /// answered.
     pub is_scanning: bool,
     /// Those for whom the scan is made.
     pub served: Askers,
@@ -55,8 +58,9 @@ impl Plans {
         !self.askers.is_empty() && !self.is_scanning
     }
 
-    /// What actor 0 is to hand in at this moment, in milliseconds: a scan where a client waits for one to begin (`is_called`), else a tick once the
-    /// moment has come to which a timer or a deadline is set (`due`).
+    /// What actor 0 is to hand in at this moment, in milliseconds: a scan where a client waits for
+    /// one to begin (`is_called`), else a tick once the moment has come to which a timer or a
+    /// deadline is set (`due`).
     pub fn wanted(&self, now: u64) -> Wanted
         ensures { result ≡ wanted_at self.now now }
     {

@@ -1,9 +1,10 @@
-//! What a step posts to whom, and in which order. A post is a line, and the seat of the connection that gets it: an answer, or news.
+//! What a step posts to whom, and in which order. A post is a line, and the slot of the connection
+//! that gets it: an answer, or news.
 ghost use Rattle.std.specs.Prelude.{◌≡◌, ◌++◌, ◌+◌, ◌*◌, ◌≤◌, ◌<◌, length, vec_capacity, OnOk, OnErr};
 ghost use Rattle.std.specs.List.{position};
 ghost use Rattle.tree_core.specs.Effect.{outcome_of};
 ghost use Rattle.server_rules.specs.NewsTold.{is_for};
-ghost use Rattle.server_rules.specs.Recipients.{answer_at, askers_of, hand_all, handed_out, posts_of, tells_states, tell, tell_letter, tell_match, tell_release, tell_seat};
+ghost use Rattle.server_rules.specs.Recipients.{answer_at, askers_of, hand_all, handed_out, posts_of, tells_states, tell, tell_letter, tell_match, tell_release, tell_slot};
 
 use crate::connection::Connection;
 use crate::places::Place;
@@ -12,14 +13,14 @@ use crate::roster::Roster;
 use crate::status_lines::Subject;
 use crate::todo::{Answer, News, Todo};
 use arrayvec::ArrayVec;
-use line_server::SEAT_COUNT;
+use line_server::SLOT_COUNT;
 use s6_events::{At, NoMemory};
 use std::alloc::Global;
 use svscan_core::Event;
 use tree_core::{Effect, Match, Release, Reply};
 
-/// The seats of connections, in rising order.
-const ALL_SEATS: [usize; SEAT_COUNT] = [0, 1, 2, 3, 4, 5, 6, 7, 8, 9, 10];
+/// The slots of connections, in rising order.
+const ALL_SLOTS: [usize; SLOT_COUNT] = [0, 1, 2, 3, 4, 5, 6, 7, 8, 9, 10];
 
 /// What is posted to a connection.
 #[derive(Clone, Copy, PartialEq, Eq, Debug)]
@@ -28,10 +29,10 @@ pub enum Line {
     News(News),
 }
 
-/// A line, and the seat of the connection to which it is posted.
+/// A line, and the slot of the connection to which it is posted.
 #[derive(Clone, Copy, PartialEq, Eq, Debug)]
 pub struct Post {
-    pub seat: usize,
+    pub slot: usize,
     pub line: Line,
 }
 
@@ -44,26 +45,28 @@ impl Post {
     }
 }
 
-/// The seats of the connections that the reply to a step answers: for a scan those for which it was made, for a request the one that asked,
-/// else none. `place` is whose step it is.
+/// The slots of the connections that the reply to a step answers: for a scan those for which it was
+/// made, for a request the one that asked, else none. `place` is whose step it is.
 pub fn askers_of(place: Place, is_scan: bool, served: &Askers) -> Askers
     ensures { result.items ≡ askers_of place is_scan served.now.items }
 {
     let mut askers = ArrayVec::new();
-    // The list has room for all seats, so it takes whatever is added.
+    // The list has room for all slots, so it takes whatever is added.
     let _ = match place {
         Place::Scanner if is_scan => askers.try_extend_from_slice(served.as_slice()),
-        Place::Client(seat) => askers.try_extend_from_slice(&[seat]),
+        Place::Client(slot) => askers.try_extend_from_slice(&[slot]),
         Place::Scanner | Place::Lane(_) => Ok(()),
     };
     askers
 }
 
-/// Hands a step's result to the connections, which are listed by seat, and adds what is posted, in this order: the reply, to the
-/// connections on `seats`; the letters, to the connections that follow their services; the matches, to the connections that made the
-/// subscriptions; the releases, to the connections that made the waiters. At `NoMemory` nothing was handed out, and nothing was added.
+/// Hands a step's result to the connections, which are listed by slot, and adds what is posted, in
+/// this order: the reply, to the connections on `slots`; the letters, to the connections that
+/// follow their services; the matches, to the connections that made the subscriptions; the
+/// releases, to the connections that made the waiters. At `NoMemory` nothing was handed out, and
+/// nothing was added.
 pub fn hand_out(
-    seats: &[usize],
+    slots: &[usize],
     at: At,
     roster: &Roster,
     effect: &Effect<Global>,
@@ -71,10 +74,10 @@ pub fn hand_out(
     posts: &mut Vec<Post>,
 ) -> Result<(), NoMemory>
     ensures connections { OnOk result (connections.new.items
-        ≡ (handed_out seats.now at roster.now (outcome_of effect.now)
+        ≡ (handed_out slots.now at roster.now (outcome_of effect.now)
         connections.old.items).connections) }
     ensures posts { OnOk result (posts.new.items ≡ posts.old.items
-        ++ (handed_out seats.now at roster.now (outcome_of effect.now)
+        ++ (handed_out slots.now at roster.now (outcome_of effect.now)
         connections.old.items).posts) }
     ensures refused { OnErr result ((connections.new ≡ connections.old)
         × (posts.new.items ≡ posts.old.items)) }
@@ -82,55 +85,55 @@ pub fn hand_out(
     let (matched, released) = (effect.matched.as_slice(), effect.released.as_slice());
     let news = matched.len().saturating_add(released.len());
     // Each letter may go to every connection.
-    let told = effect.events.len().saturating_mul(SEAT_COUNT);
+    let told = effect.events.len().saturating_mul(SLOT_COUNT);
     // Room for all posts is taken first, so that nothing can fail half-way.
-    posts.reserve(seats.len().saturating_add(told.saturating_add(news)))?;
-    answer_all(seats, &effect.reply, connections, posts);
+    posts.reserve(slots.len().saturating_add(told.saturating_add(news)))?;
+    answer_all(slots, &effect.reply, connections, posts);
     tell_letters(at, roster, effect.events.as_slice(), connections, posts);
     tell_matches(matched, connections, posts);
     tell_releases(released, connections, posts);
     Ok(())
 }
 
-// The reply goes to the connections of these seats.
+// The reply goes to the connections of these slots.
 fn answer_all(
-    seats: &[usize],
+    slots: &[usize],
     reply: &Reply<Global>,
     connections: &mut Vec<Connection>,
     posts: &mut Vec<Post>,
 )
-    requires { length posts.old.items + length seats.now ≤ vec_capacity posts.old }
+    requires { length posts.old.items + length slots.now ≤ vec_capacity posts.old }
     ensures connections { connections.new.items
-        ≡ (hand_all (answer_at reply.now) seats.now connections.old.items).connections }
+        ≡ (hand_all (answer_at reply.now) slots.now connections.old.items).connections }
     ensures posts { posts.new.items ≡ posts.old.items
-        ++ (hand_all (answer_at reply.now) seats.now connections.old.items).posts }
+        ++ (hand_all (answer_at reply.now) slots.now connections.old.items).posts }
     ensures room { vec_capacity posts.new ≡ vec_capacity posts.old }
-    ensures count { length posts.new.items ≤ length posts.old.items + length seats.now }
+    ensures count { length posts.new.items ≤ length posts.old.items + length slots.now }
 {
-    for seat in seats {
-        answer_one(*seat, reply, connections, posts);
+    for slot in slots {
+        answer_one(*slot, reply, connections, posts);
     }
 }
 
-// The reply goes to the connection of this seat: `answered` says what is posted to it.
+// The reply goes to the connection of this slot: `answered` says what is posted to it.
 fn answer_one(
-    seat: usize,
+    slot: usize,
     reply: &Reply<Global>,
     connections: &mut Vec<Connection>,
     posts: &mut Vec<Post>,
 )
     requires { length posts.old.items < vec_capacity posts.old }
     ensures connections { connections.new.items
-        ≡ (answer_at reply.now seat connections.old.items).connections }
+        ≡ (answer_at reply.now slot connections.old.items).connections }
     ensures posts { posts.new.items ≡ posts.old.items
-        ++ (answer_at reply.now seat connections.old.items).posts }
+        ++ (answer_at reply.now slot connections.old.items).posts }
     ensures room { vec_capacity posts.new ≡ vec_capacity posts.old }
     ensures count { length posts.new.items ≤ length posts.old.items + 1 }
 {
-    let Some(connection) = connections.get_mut(seat) else {
+    let Some(connection) = connections.get_mut(slot) else {
         return;
     };
-    add_post(seat, connection.answered(reply), None, posts);
+    add_post(slot, connection.answered(reply), None, posts);
 }
 
 // The letters of a step at this moment go to the connections that follow their services.
@@ -171,46 +174,48 @@ fn tell_letter(
     ensures count { length posts.new.items ≤ length posts.old.items + 11 }
 {
     let letter = News::Letter(roster.letter(at, event));
-    tell_seats(&ALL_SEATS, &letter, connections, posts);
+    tell_slots(&ALL_SLOTS, &letter, connections, posts);
 }
 
-// The news go to each connection on these seats that they concern.
-fn tell_seats(
-    seats: &[usize],
+// The news go to each connection on these slots that they concern.
+fn tell_slots(
+    slots: &[usize],
     news: &News,
     connections: &mut Vec<Connection>,
     posts: &mut Vec<Post>,
 )
-    requires { length posts.old.items + length seats.now ≤ vec_capacity posts.old }
+    requires { length posts.old.items + length slots.now ≤ vec_capacity posts.old }
     ensures connections { connections.new.items
-        ≡ (hand_all (tell_seat news.now) seats.now connections.old.items).connections }
+        ≡ (hand_all (tell_slot news.now) slots.now connections.old.items).connections }
     ensures posts { posts.new.items ≡ posts.old.items
-        ++ (hand_all (tell_seat news.now) seats.now connections.old.items).posts }
+        ++ (hand_all (tell_slot news.now) slots.now connections.old.items).posts }
     ensures room { vec_capacity posts.new ≡ vec_capacity posts.old }
-    ensures count { length posts.new.items ≤ length posts.old.items + length seats.now }
+    ensures count { length posts.new.items ≤ length posts.old.items + length slots.now }
 {
-    for seat in seats {
-        tell_seat(*seat, news, connections, posts);
+    for slot in slots {
+        tell_slot(*slot, news, connections, posts);
     }
 }
 
-// The news go to the connection on this seat, if they concern it: `told` says whether they are posted.
-fn tell_seat(seat: usize, news: &News, connections: &mut Vec<Connection>, posts: &mut Vec<Post>)
+// The news go to the connection on this slot, if they concern it: `told` says whether they are
+// posted.
+fn tell_slot(slot: usize, news: &News, connections: &mut Vec<Connection>, posts: &mut Vec<Post>)
     requires { length posts.old.items < vec_capacity posts.old }
     ensures connections { connections.new.items
-        ≡ (tell_seat news.now seat connections.old.items).connections }
+        ≡ (tell_slot news.now slot connections.old.items).connections }
     ensures posts { posts.new.items ≡ posts.old.items
-        ++ (tell_seat news.now seat connections.old.items).posts }
+        ++ (tell_slot news.now slot connections.old.items).posts }
     ensures room { vec_capacity posts.new ≡ vec_capacity posts.old }
     ensures count { length posts.new.items ≤ length posts.old.items + 1 }
 {
-    let Some(connection) = connections.get_mut(seat) else {
+    let Some(connection) = connections.get_mut(slot) else {
         return;
     };
-    add_post(seat, connection.told(news), Some(*news), posts);
+    add_post(slot, connection.told(news), Some(*news), posts);
 }
 
-// Each match of a step goes to the connection that made its subscription. `posts` has room for what is added.
+// Each match of a step goes to the connection that made its subscription. `posts` has room for what
+// is added.
 fn tell_matches(matched: &[Match], connections: &mut Vec<Connection>, posts: &mut Vec<Post>)
     requires { length posts.old.items + length matched.now ≤ vec_capacity posts.old }
     ensures connections { connections.new.items
@@ -225,7 +230,8 @@ fn tell_matches(matched: &[Match], connections: &mut Vec<Connection>, posts: &mu
     }
 }
 
-// Each release of a step goes to the connection that made its waiter. `posts` has room for what is added.
+// Each release of a step goes to the connection that made its waiter. `posts` has room for what is
+// added.
 fn tell_releases(released: &[Release], connections: &mut Vec<Connection>, posts: &mut Vec<Post>)
     requires { length posts.old.items + length released.now ≤ vec_capacity posts.old }
     ensures connections { connections.new.items
@@ -238,7 +244,8 @@ fn tell_releases(released: &[Release], connections: &mut Vec<Connection>, posts:
     }
 }
 
-// The news go to the connection that made the subscription or the waiter; to nobody where they concern no connection.
+// The news go to the connection that made the subscription or the waiter; to nobody where they
+// concern no connection.
 fn tell_one(news: News, connections: &mut Vec<Connection>, posts: &mut Vec<Post>)
     requires { length posts.old.items < vec_capacity posts.old }
     ensures connections { connections.new.items ≡ (tell news connections.old.items).connections }
@@ -246,23 +253,24 @@ fn tell_one(news: News, connections: &mut Vec<Connection>, posts: &mut Vec<Post>
     ensures room { vec_capacity posts.new ≡ vec_capacity posts.old }
     ensures count { length posts.new.items ≤ length posts.old.items + 1 }
 {
-    let Some(seat) = maker_of(connections, &news) else {
+    let Some(slot) = maker_of(connections, &news) else {
         return;
     };
-    tell_seat(seat, &news, connections, posts);
+    tell_slot(slot, &news, connections, posts);
 }
 
-// The seat of the first connection that the news concern; None where they concern none.
+// The slot of the first connection that the news concern; None where they concern none.
 fn maker_of(connections: &[Connection], news: &News) -> Option<usize>
     ensures { result ≡ position (is_for news.now) connections.now }
 {
     connections.iter().position(|one| one.is_for(news))
 }
 
-// Adds what is posted to a connection, if anything is: an answer, or the news. There is room for it.
-fn add_post(seat: usize, todo: Todo, news: Option<News>, posts: &mut Vec<Post>)
+// Adds what is posted to a connection, if anything is: an answer, or the news. There is room for
+// it.
+fn add_post(slot: usize, todo: Todo, news: Option<News>, posts: &mut Vec<Post>)
     requires { length posts.old.items < vec_capacity posts.old }
-    ensures posts { posts.new.items ≡ posts.old.items ++ posts_of seat news todo }
+    ensures posts { posts.new.items ≡ posts.old.items ++ posts_of slot news todo }
     ensures room { vec_capacity posts.new ≡ vec_capacity posts.old }
     ensures count { length posts.new.items ≤ length posts.old.items + 1 }
 {
@@ -271,5 +279,5 @@ fn add_post(seat: usize, todo: Todo, news: Option<News>, posts: &mut Vec<Post>)
         (Todo::Tell, Some(news)) => Line::News(news),
         _ => return,
     };
-    posts.push_reserved(Post { seat, line });
+    posts.push_reserved(Post { slot, line });
 }

@@ -1,6 +1,6 @@
 //! What a line of a client asks for.
 ghost use Rattle.std.specs.Prelude.{◌≡◌, ◌&&◌, ◌==◌, take, drop};
-ghost use Rattle.server_rules.specs.Requests.{follow_one, follow_request, is_lasting, last_client, own_request, request_of, seated_request, AsksFor, IsAsked};
+ghost use Rattle.server_rules.specs.Requests.{follow_one, follow_request, is_lasting, last_client, own_request, request_of, allowed_request, AsksFor, IsAsked};
 
 use crate::following::Following;
 use crate::own_answer::OwnAnswer;
@@ -42,21 +42,22 @@ impl Request {
     }
 }
 
-/// Reads a line of a client: the words of an act, or a request of the server alone. The last seat is kept for short requests, so that
-/// however many clients wait, another can still tell the tree what to do: there a wait, a subscription, and a request to be told letters
-/// are refused as `Busy`.
+/// Reads a line of a client: the words of an act, or a request of the server alone. The last slot
+/// is kept for short requests, so that however many clients wait, another can still tell the tree
+/// what to do: there a wait, a subscription, and a request to be told letters are refused as
+/// `Busy`.
 pub fn read_request(alloc: Global, actor: Actor, line: &[u8]) -> Request
     ensures { IsAsked result actor line.now }
 {
     match own_request(line) {
-        Some(request) => seated(actor, request),
-        None => seated(actor, act_request(alloc, line)),
+        Some(request) => allowed(actor, request),
+        None => allowed(actor, act_request(alloc, line)),
     }
 }
 
-// The request; `Busy` where it is one that the last seat doesn't take.
-fn seated(actor: Actor, request: Request) -> Request
-    ensures { result ≡ seated_request actor request }
+// The request; `Busy` where it is one that the last slot doesn't take.
+fn allowed(actor: Actor, request: Request) -> Request
+    ensures { result ≡ allowed_request actor request }
 {
     if usize::from(actor.number()) == LAST_CLIENT && request.is_lasting() {
         return Request::Refused(OwnAnswer::Busy);
@@ -64,7 +65,8 @@ fn seated(actor: Actor, request: Request) -> Request
     request
 }
 
-// The request of a line that only the server knows, and that is no act of a script; None for any other line.
+// The request of a line that only the server knows, and that is no act of a script; None for any
+// other line.
 fn own_request(line: &[u8]) -> Option<Request>
     ensures { result ≡ own_request line.now }
 {
@@ -96,7 +98,8 @@ fn follow_request(line: &[u8]) -> Option<Request>
     }
 }
 
-// The request to be told the letters of the service of this name, which is the rest of the line; None where it is no name.
+// The request to be told the letters of the service of this name, which is the rest of the line;
+// None where it is no name.
 fn follow_one(name: &[u8]) -> Option<Request>
     ensures { result ≡ follow_one name.now }
 {
@@ -118,7 +121,8 @@ fn act_request(alloc: Global, line: &[u8]) -> Request
     }
 }
 
-// What an act asks for. A client can't hand in reports, listings and ticks, which the server itself makes: such a line is refused.
+// What an act asks for. A client can't hand in reports, listings and ticks, which the server itself
+// makes: such a line is refused.
 fn request_of(act: Act<Global>) -> Request
     ensures { result ≡ request_of act }
 {

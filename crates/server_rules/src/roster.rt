@@ -23,20 +23,23 @@ pub enum Ending {
     Gone,
 }
 
-/// A service that a scan added: how it is over, if it is, since when it is up or down, and whether its last start failed.
+/// A service that a scan added: how it is over, if it is, since when it is up or down, and whether
+/// its last start failed.
 #[derive(Clone, Copy, Debug, PartialEq, Eq)]
 pub struct Member {
     pub sid: Sid,
     pub name: Name,
     /// How it is over, if it is.
     pub ending: Option<Ending>,
-    /// Since when it is up or down: the moment of its last letter `u` or `d`; None where neither came since its last `s`.
+    /// Since when it is up or down: the moment of its last letter `u` or `d`; None where neither
+    /// came since its last `s`.
     pub since: Option<At>,
     /// Whether a start of it failed, and no letter of it came since.
     pub start_failed: bool,
 }
 
-// How a service is over after this letter: `s` and `u` say that it is not, `O` that it failed for good, and `x` that its supervisor has ended.
+// How a service is over after this letter: `s` and `u` say that it is not, `O` that it failed for
+// good, and `x` that its supervisor has ended.
 fn ending_by(mark: Mark, ending: Option<Ending>) -> Option<Ending>
     ensures { result ≡ ending_by mark ending }
 {
@@ -48,7 +51,8 @@ fn ending_by(mark: Mark, ending: Option<Ending>) -> Option<Ending>
     }
 }
 
-// Since when a service is up or down after this letter, which was told at this moment: since then for `u` and `d`, and neither after an `s`.
+// Since when a service is up or down after this letter, which was told at this moment: since then
+// for `u` and `d`, and neither after an `s`.
 fn since_by(at: At, mark: Mark, since: Option<At>) -> Option<At>
     ensures { result ≡ since_by at mark since }
 {
@@ -116,14 +120,16 @@ impl Roster {
         }
     }
 
-    /// Whether it is so long that services without a row on the board, which have left the tree, are to be forgotten.
+    /// Whether it is so long that services without a row on the board, which have left the tree,
+    /// are to be forgotten.
     pub fn is_long(&self) -> bool
         ensures { result ≡ is_long self.now }
     {
         self.members.len() > MEMBER_LIMIT
     }
 
-    /// Adds the services that a scan added, as its report lists them. At `NoMemory` the roster is as it was.
+    /// Adds the services that a scan added, as its report lists them. At `NoMemory` the roster is
+    /// as it was.
     pub fn add(&mut self, listed: &[Listed]) -> Result<(), NoMemory>
         ensures added { OnOk result (self.new ≡ self.old ++ added listed.now) }
         ensures refused { OnErr result (self.new ≡ self.old) }

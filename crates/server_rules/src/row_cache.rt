@@ -1,4 +1,5 @@
-//! The rows of the board, the status of each service, as they were last read, for the threads of connections.
+//! The rows of the board, the status of each service, as they were last read, for the threads of
+//! connections.
 ghost use Rattle.std.specs.Prelude.{◌≡◌, ◌&&◌, IfOk, IfSome, None, OnOk, Some};
 ghost use Rattle.status_board.specs.Board.{last_shot};
 ghost use Rattle.server_rules.specs.Status.{told_text, is_had};
@@ -14,9 +15,10 @@ use status_board::{BoardReader, Shot};
 use std::alloc::{AllocError, Global};
 use std::sync::{Mutex, Wait};
 
-/// The rows of a shot (all rows of the board after one step), the roster, and what the last scan could not read. `step` is the moment of the
-/// last step before the rows were read, in milliseconds; None where they may not be those of the board any more. `has_roster` is whether the
-/// roster is of the same step as the rows.
+/// The rows of a shot (all rows of the board after one step), the roster, and what the last scan
+/// could not read. `step` is the moment of the last step before the rows were read, in
+/// milliseconds; None where they may not be those of the board any more. `has_roster` is whether
+/// the roster is of the same step as the rows.
 #[derive(Drop)]
 struct CachedRows {
     shot: Box<Shot>,
@@ -28,8 +30,9 @@ struct CachedRows {
 }
 
 impl CachedRows {
-    // Whether a status of these services may be told from them at the moment `now`: the last step before they were read was at the moment `step`,
-    // which has to be recent, and all that the status tells has to be there (`has`).
+    // Whether a status of these services may be told from them at the moment `now`: the last step
+    // before they were read was at the moment `step`, which has to be recent, and all that the
+    // status tells has to be there (`has`).
     fn is_fresh(&self, now: u64, subject: &Subject) -> bool
         ensures { result ≡ is_fresh self.now.step now && is_had self.now.has_roster subject.now }
     {
@@ -68,15 +71,16 @@ impl CachedRows {
         Ok(text)
     }
 
-    // The rows may not be those of the board any more: without the moment of their step, no status is told from them.
+    // The rows may not be those of the board any more: without the moment of their step, no status
+    // is told from them.
     fn forget(&mut self)
         ensures step { self.new.step ≡ None }
     {
         self.step = None;
     }
 
-    // Reads the board anew. `step` is the moment of the last step; None where the board doesn't show that step. The moment is kept only
-    // with the shot that was published last.
+    // Reads the board anew. `step` is the moment of the last step; None where the board doesn't
+    // show that step. The moment is kept only with the shot that was published last.
     fn read<C: Channels>(&mut self, reader: &mut BoardReader<C>, step: Option<u64>)
         ensures kept { IfSome self.new.step
             (λ at. (step ≡ Some at) × (last_shot reader.new ≡ Some self.new.shot.value)) }
@@ -102,8 +106,9 @@ impl CachedRows {
     }
 }
 
-/// The rows of the board as they were last read. The driver, which is the thread that drives the tree's runs, reads them, and forgets them
-/// with each step. The threads of connections tell a status from them, so a status of a tree at rest wakes nobody.
+/// The rows of the board as they were last read. The driver reads them, and forgets them with each
+/// step. The threads of connections tell a status from them, so a status of a tree at rest wakes
+/// nobody.
 #[derive(Drop)]
 pub struct RowCache {
     rows: Mutex<CachedRows>,
@@ -121,7 +126,6 @@ impl RowCache {
             unread: Vec::new(alloc),
             // The moment of the last step before the rows were read: none was.
             step: None,
-            // Whether the roster is of the same step as the rows.
             has_roster: false,
         };
         Ok(RowCache {
@@ -139,8 +143,9 @@ impl RowCache {
         self.rows.lock(rt).unread = unread;
     }
 
-    /// The status of these services at the moment `now`, in milliseconds. None where the rows may not be those of the board any more, where
-    /// the last step is a second old or older, or where the states are asked for and the roster wasn't copied since the rows were read.
+    /// The status of these services at the moment `now`, in milliseconds. None where the rows may
+    /// not be those of the board any more, where the last step is a second old or older, or where
+    /// the states are asked for and the roster wasn't copied since the rows were read.
     pub fn status<R: Wait>(
         &self,
         rt: &R,
@@ -155,8 +160,9 @@ impl RowCache {
         Some(rows.status(alloc, subject))
     }
 
-    /// Reads the board anew, and returns the status of these services. `step` is the moment of the last step, in milliseconds; None where
-    /// the board doesn't show that step yet. The roster has noted that step.
+    /// Reads the board anew, and returns the status of these services. `step` is the moment of the
+    /// last step, in milliseconds; None where the board doesn't show that step yet. The roster has
+    /// noted that step.
     pub fn read<C: Channels, R: Wait>(
         &self,
         rt: &R,
@@ -174,8 +180,9 @@ impl RowCache {
         }
         rows.status(alloc, subject)
     }
-    /// Reads the board anew, and has the roster forget the services that have no row. `step` is the moment of the last step, in
-    /// milliseconds; None where the board doesn't show that step yet: then nothing is forgotten. The roster has noted that step.
+    /// Reads the board anew, and has the roster forget the services that have no row. `step` is the
+    /// moment of the last step, in milliseconds; None where the board doesn't show that step yet:
+    /// then nothing is forgotten. The roster has noted that step.
     pub fn forget_gone<C: Channels, R: Wait>(
         &self,
         rt: &R,

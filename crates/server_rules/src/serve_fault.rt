@@ -33,12 +33,13 @@ pub enum ServeFault {
     Lanes,
     /// The run could not be closed.
     Close,
-    /// The record could not be made, or is used by another server, or a run was not written into it.
+    /// The record could not be made, or is used by another server, or a run was not written into
+    /// it.
     Record,
 }
 
-// The line on standard error for a fault, which programs read. `Lanes`: there are not 1 to 4 lanes; `Full` and `Close`: a run could not go over
-// into the next.
+// The line on standard error for a fault, which programs read. `Lanes`: there are not 1 to 4 lanes;
+// `Full` and `Close`: a run could not go over into the next.
 fn text_of(fault: ServeFault) -> &'static [u8]
     ensures { result.now ≡ fault_text fault }
 {
@@ -57,8 +58,8 @@ fn text_of(fault: ServeFault) -> &'static [u8]
     }
 }
 
-/// Writes the line of a fault, and returns the exit status, 111. Where the line can't be written whole, a front of it is written, and the
-/// status is the same.
+/// Writes the line of a fault, and returns the exit status, 111. Where the line can't be written
+/// whole, a front of it is written, and the status is the same.
 pub fn tell_serve_fault<E: Write>(fault: ServeFault, errors: &mut E) -> u8
     ensures status { result ≡ 111 }
     ensures line { Appends (E.contents errors.old) (E.contents errors.new) (fault_text fault)

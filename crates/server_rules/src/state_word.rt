@@ -1,4 +1,5 @@
-//! The state of a service in one word, by its status row, and by what its letters and its last start say.
+//! The state of a service in one word, by its status row, and by what its letters and its last
+//! start say.
 ghost use Rattle.std.specs.Prelude.{◌≡◌};
 ghost use Rattle.server_rules.specs.States.{started_state, state_after_failed_start, state_of, state_word, stays_down, supervised_state, up_state};
 
@@ -26,7 +27,8 @@ pub enum StateWord {
     Down,
     /// `failed`: it failed for good, and stays down.
     Failed,
-    /// `gone`: its supervisor has ended: it was told `x`, its directory was gone at a `-h`, or the tree ends.
+    /// `gone`: its supervisor has ended: it was told `x`, its directory was gone at a `-h`, or the
+    /// tree ends.
     Gone,
 }
 
@@ -53,8 +55,8 @@ fn stays_down(ending: Option<Ending>) -> StateWord
     }
 }
 
-// The state of a service whose supervisor is there. The row of a service that is down has an `exit` once a run has ended, and is `ready` once the
-// `finish` after that is done.
+// The state of a service whose supervisor is there. The row of a service that is down has an `exit`
+// once a run has ended, and is `ready` once the `finish` after that is done.
 fn supervised_state(ending: Option<Ending>, row: &Row) -> StateWord
     ensures { result ≡ supervised_state ending row.now }
 {
@@ -81,8 +83,8 @@ fn state_after_failed_start(state: StateWord) -> StateWord
     }
 }
 
-// The state of a service whose supervisor is there: `state`, or `startfailed` where its start failed and `state` is `starting` or
-// `restarting`.
+// The state of a service whose supervisor is there: `state`, or `startfailed` where its start
+// failed and `state` is `starting` or `restarting`.
 fn started_state(start_failed: bool, state: StateWord) -> StateWord
     ensures { result ≡ started_state start_failed state }
 {
@@ -93,8 +95,8 @@ fn started_state(start_failed: bool, state: StateWord) -> StateWord
     }
 }
 
-/// The state of a service, by what its letters say of its end, by whether its start failed since the last of them, and by its row. Page
-/// `s6-svstat` for the row.
+/// The state of a service, by what its letters say of its end, by whether its start failed since
+/// the last of them, and by its row. Page `s6-svstat` for the row.
 pub fn state_of(ending: Option<Ending>, start_failed: bool, row: &Row) -> StateWord
     ensures { result ≡ state_of ending start_failed row.now }
 {

@@ -127,8 +127,9 @@ fn push_states(text: &mut Vec<u8>, roster: &Roster, rows: &[Row]) -> Result<(), 
     Ok(())
 }
 
-/// Adds the status of these services, and an empty line: the row of one, or that there is none of its name; the rows of all; or the states
-/// and rows of all, and what the last scan could not read. Page `s6-svstat`.
+/// Adds the status of these services, and an empty line: the row of one, or that there is none of
+/// its name; the rows of all; or the states and rows of all, and what the last scan could not read.
+/// Page `s6-svstat`.
 pub fn push_told(
     text: &mut Vec<u8>,
     rows: &[Row],

@@ -1,4 +1,5 @@
-//! What the steps of a run have told so far: the roster, which lists the services that scans added and how each is over.
+//! What the steps of a run have told so far: the roster, which lists the services that scans added
+//! and how each is over.
 ghost use Rattle.std.specs.Prelude.{◌≡◌, [], OnOk, OnErr};
 ghost use Rattle.tree_core.specs.Effect.{outcome_of};
 ghost use Rattle.server_rules.specs.StepNotes.{has_noted, with_next_run, with_step, tells_of};
@@ -9,8 +10,8 @@ use s6_events::{At, NoMemory};
 use std::alloc::Global;
 use tree_core::{Effect, Reply};
 
-/// What the steps told of services, and up to which step of the run that is noted. Each step is noted once, even where its effect is looked
-/// at again.
+/// What the steps told of services, and up to which step of the run that is noted. Each step is
+/// noted once, even where its effect is looked at again.
 #[derive(Drop)]
 pub struct StepNotes {
     pub roster: Roster,
@@ -29,9 +30,7 @@ impl StepNotes {
     {
         StepNotes {
             roster: Roster::new(alloc),
-            // The clock of the tree after the last step that was noted.
             clock: At::zero(),
-            // How many steps of the run were noted.
             noted: 0,
         }
     }
@@ -43,8 +42,8 @@ impl StepNotes {
         self.noted = 0;
     }
 
-    /// Notes what step `number` gave, counted from 1, unless it was noted before. `moment` is when its input was handed in. At `NoMemory`
-    /// nothing was noted.
+    /// Notes what step `number` gave, counted from 1, unless it was noted before. `moment` is when
+    /// its input was handed in. At `NoMemory` nothing was noted.
     pub fn note(&mut self, number: u64, moment: At, effect: &Effect<Global>) -> Result<(), NoMemory>
         ensures noted { OnOk result
             (self.new ≡ with_step number moment (outcome_of effect.now) self.old) }
@@ -74,8 +73,9 @@ impl StepNotes {
         number <= self.noted
     }
 
-    /// Whether the status of these services may be told now. `steps` is how many steps the run has, and `is_shown` whether the board shows
-    /// the last of them. States are told only where all these steps were noted and the board shows them; rows are told always.
+    /// Whether the status of these services may be told now. `steps` is how many steps the run has,
+    /// and `is_shown` whether the board shows the last of them. States are told only where all
+    /// these steps were noted and the board shows them; rows are told always.
     pub fn tells_of(&self, subject: &Subject, steps: u64, is_shown: bool) -> bool
         ensures { result ≡ tells_of subject.now steps is_shown self.now }
     {

@@ -1,4 +1,5 @@
-//! The lines that are posted to connections, and the line that says where clients can connect. An empty line ends whatever is posted.
+//! The lines that are posted to connections, and the line that says where clients can connect. An
+//! empty line ends whatever is posted.
 ghost use Rattle.std.specs.Prelude.{◌≡◌, ◌++◌, ◌∷◌, [], OnOk, IfOk};
 ghost use Rattle.s6_replay.specs.Transcript.{match_line, release_line};
 ghost use Rattle.s6_replay.specs.ReplyText.{reply_text};
@@ -55,8 +56,8 @@ pub fn recorded_line(alloc: Global, steps: u64) -> Result<Vec<u8>, AllocError>
     Ok(text)
 }
 
-/// What answers `clock`: the time of day at which the tree's clock was 0, and the tree's clock, both in milliseconds, the first one since
-/// 1970; and the empty line behind it.
+/// What answers `clock`: the time of day at which the tree's clock was 0, and the tree's clock,
+/// both in milliseconds, the first one since 1970; and the empty line behind it.
 pub fn clock_line(alloc: Global, since: u64, now: u64) -> Result<Vec<u8>, AllocError>
     ensures { IfOk result (λ text. text.items ≡ clock_text since now) }
 {
@@ -69,7 +70,8 @@ pub fn clock_line(alloc: Global, since: u64, now: u64) -> Result<Vec<u8>, AllocE
     Ok(text)
 }
 
-/// The line on standard error once clients can connect. It names the socket, and says since which time of day.
+/// The line on standard error once clients can connect. It names the socket, and says since which
+/// time of day.
 pub fn serving_line(alloc: Global, socket: &str, day: &str) -> Result<Vec<u8>, AllocError>
     ensures { IfOk result (λ text. text.items ≡ serving_text socket.now day.now) }
 {

@@ -22,7 +22,8 @@ pub enum Answer {
     Own(OwnAnswer),
 }
 
-/// What a step tells a connection beside its replies: it made the subscription or the waiter, or it follows the service.
+/// What a step tells a connection beside its replies: it made the subscription or the waiter, or it
+/// follows the service.
 #[derive(Clone, Copy, PartialEq, Eq, Debug)]
 pub enum News {
     /// A message matched a subscription.
@@ -47,6 +48,6 @@ pub enum Todo {
     Give(Answer),
     /// The news are posted.
     Tell,
-    /// Its seat is free.
+    /// Its slot is free.
     Free,
 }

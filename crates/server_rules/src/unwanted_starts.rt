@@ -25,8 +25,8 @@ fn down_after_all(letters: &[ControlLetter], before: bool) -> bool
     }
 }
 
-/// Whether these letters of one `svc` take a service down: the last of `u`, `d` and `x` among them isn't `u`. A start of it that is tried again is
-/// wanted no more then. Page `s6-svc`.
+/// Whether these letters of one `svc` take a service down: the last of `u`, `d` and `x` among them
+/// isn't `u`. A start of it that is tried again is wanted no more then. Page `s6-svc`.
 pub fn take_down(letters: &[ControlLetter]) -> bool
     ensures { result ≡ down_after_all letters.now false }
 {

@@ -11,9 +11,9 @@ use Rattle.line_server.proofs.server.Server.TheSendSync as server
 use Rattle.line_server.specs.contracts.server.Server as Server
 use Rattle.server_rules.specs.contracts.requests.Request as Request
 use Rattle.server_threads.specs.contracts.caller.Caller as Caller
-use Rattle.server_threads.specs.contracts.caller.Turn as Turn
-use Rattle.server_threads.specs.contracts.outcome.Outcome as Outcome
-use Rattle.server_threads.proofs.scan_desk.ScanDesk.TheSendSync as desk
+use Rattle.server_threads.specs.contracts.caller.CallerRequests as CallerRequests
+use Rattle.server_threads.specs.contracts.noted_end.NotedEnd as NotedEnd
+use Rattle.server_threads.proofs.scan_tasks.ScanTasks.TheSendSync as tasks
 use Rattle.server_threads.specs.contracts.shared.Shared as Shared
 
 number_send : IsSend u64-field.row
@@ -25,9 +25,9 @@ flag_send = search sendable
 request_send : IsSend Request.the_row
 request_send = search (pattern_send, option.the_field_send, crosses, sendable) depth 60 fits 20000
 
-turn_send : IsSend Turn.the_row
+turn_send : IsSend CallerRequests.the_row
 turn_send =
-    let T = Turn.the_type in
+    let T = CallerRequests.the_type in
     recorded_send _ _ _ T.to_one (struct_send (shape T) (
       search (request_send, crosses, sendable) depth 60 fits 20000,
       (number_send, (flag_send, (flag_send, (flag_send, (flag_send, tt))))),
@@ -46,7 +46,7 @@ shared_sync =
         (
           search (caller_sync, crosses, sendable) depth 60 fits 20000,
           (
-            search (desk.the_field_sync, crosses, sendable) depth 60 fits 20000,
+            search (tasks.the_field_sync, crosses, sendable) depth 60 fits 20000,
             (
               search (crosses, sendable) depth 60 fits 20000,
               (
@@ -62,5 +62,5 @@ shared_sync =
 pub server_sync : IsSync (Server.the_row Shared.the_row)
 server_sync = search (shared_sync, server.the_sync, crosses, sendable) depth 60 fits 20000
 
-pub outcome_sync : IsSync Outcome.the_row
+pub outcome_sync : IsSync NotedEnd.the_row
 outcome_sync = search (crosses, sendable) depth 60 fits 20000

@@ -38,8 +38,8 @@ fn time_of_day<R: Clock>(rt: &R) -> io::Result<u64> {
     }
 }
 
-/// The moment of so many milliseconds; 0 where they are more than a moment can have. That does no harm, since the clock of a tree never
-/// goes back.
+/// The moment of so many milliseconds; 0 where they are more than a moment can have. That does no
+/// harm, since the clock of a tree never goes back.
 pub fn moment_of(millis: u64) -> At {
     At::new(millis).unwrap_or(At::zero())
 }

@@ -1,12 +1,13 @@
-//! What every part of a running tree works with. A seat is the number of a connection, and its mailbox is where texts wait to be written to it.
+//! What every part of a running tree works with.
 use crate::caller::Caller;
 use crate::shared::Shared;
 use line_server::Server;
 use std::alloc::{AllocError, Global};
 use std::sync::Wait;
 
-/// What every part of a running tree works with: the runtime (`rt`), by which threads wait, take locks and read clocks, and the server whose
-/// connections are answered. The server has what all threads share, and the mailboxes of the connections.
+/// What every part of a running tree works with: the runtime (`rt`), by which threads wait, take
+/// locks and read clocks, and the server whose connections are answered. The server has what all
+/// threads share, and the mailboxes of the connections.
 #[derive(Drop)]
 pub struct Context<'a, R> {
     pub rt: &'a R,
@@ -24,16 +25,18 @@ impl<'a, R: Wait> Context<'a, R> {
         self.server.answers().alloc
     }
 
-    /// The requests of the connection on this seat, as its thread and the driver share them; None where there is no such seat.
-    pub fn caller(&self, seat: usize) -> Option<&'a Caller> {
-        self.server.answers().callers.get(seat)
+    /// The requests of the connection on this slot, as its thread and the driver share them; None
+    /// where there is no such slot.
+    pub fn caller(&self, slot: usize) -> Option<&'a Caller> {
+        self.server.answers().callers.get(slot)
     }
 
-    /// Posts a text to the connection on this seat, if there is one: it is added to the connection's mailbox, where it waits; call `wake`
-    /// afterwards, so that it is written. `Err` says that memory for the text was refused: then the connection is ended, since a text would be
-    /// missing in what it reads.
-    pub fn post(&self, seat: usize, text: Result<&[u8], AllocError>) {
-        let Some(mailbox) = self.server.mailbox(self.rt, seat) else {
+    /// Posts a text to the connection on this slot, if there is one: it is added to the
+    /// connection's mailbox, where it waits; call `wake` afterwards, so that it is written. `Err`
+    /// says that memory for the text was refused: then the connection is ended, since a text would
+    /// be missing in what it reads.
+    pub fn post(&self, slot: usize, text: Result<&[u8], AllocError>) {
+        let Some(mailbox) = self.server.mailbox(self.rt, slot) else {
             return;
         };
         match text {
@@ -45,9 +48,9 @@ impl<'a, R: Wait> Context<'a, R> {
         }
     }
 
-    /// Wakes the thread that writes to the connection on this seat, if there is one.
-    pub fn wake(&self, seat: usize) {
-        if let Some(mailbox) = self.server.mailbox(self.rt, seat) {
+    /// Wakes the thread that writes to the connection on this slot, if there is one.
+    pub fn wake(&self, slot: usize) {
+        if let Some(mailbox) = self.server.mailbox(self.rt, slot) {
             mailbox.wake();
         }
     }

@@ -1,13 +1,15 @@
-//! The threads that serve the connections of a running tree, and the thread that reads its scan directory; what they share with the driver,
-//! the thread that drives all runs; and the socket.
+//! The threads that serve the connections of a running tree, and the thread that reads its scan
+//! directory; what they share with the driver, the thread that drives all runs; and the socket. A
+//! slot is the number of a connection, and its mailbox is where texts wait to be written to it;
+//! news is a match, a release or a letter.
 #![tactic(auto)]
 
 mod caller;
 mod clock;
 mod connecting;
 mod context;
-mod outcome;
-mod scan_desk;
+mod noted_end;
+mod scan_tasks;
 mod scanning;
 mod shared;
 mod socket;
@@ -16,8 +18,8 @@ pub use caller::{Caller, new_callers};
 pub use clock::{ServerClock, moment_of};
 pub use connecting::{end_connections, start_listener};
 pub use context::Context;
-pub use outcome::Outcome;
-pub use scan_desk::{ReadScan, ScanDesk};
+pub use noted_end::NotedEnd;
+pub use scan_tasks::{ReadScan, ScanTasks};
 pub use scanning::attend;
 pub use shared::Shared;
 pub use socket::{SocketFile, listen};

@@ -1,5 +1,5 @@
 //! The thread that reads the scan directory.
-use crate::scan_desk::{ReadScan, Task};
+use crate::scan_tasks::{ReadScan, Task};
 use crate::shared::Shared;
 use scan_directory::read_listing;
 use server_rules::OwnAnswer;
@@ -8,8 +8,8 @@ use std::mem;
 use std::rt::Files;
 use std::sync::Wait;
 
-/// Reads the directory whenever a listing is asked for, and drops the runs that were closed, until the tree has ended. Faults of the
-/// directory's services are told on `errors`.
+/// Reads the directory whenever a listing is asked for, and drops the runs that were closed, until
+/// the tree has ended. Faults of the directory's services are told on `errors`.
 pub fn attend<R: Files + Wait + Copy + Drop, E: Write>(
     rt: &R,
     shared: &Shared,
@@ -21,7 +21,7 @@ pub fn attend<R: Files + Wait + Copy + Drop, E: Write>(
             Task::Read => {
                 let found = read_scan(rt, shared, directory, errors);
                 // The driver takes it there; its bell tells it to look.
-                shared.scans.leave(rt, found);
+                shared.scans.leave_found(rt, found);
                 shared.driver.ring(rt);
             }
             Task::Drop(run) => mem::drop(run),
@@ -30,8 +30,8 @@ pub fn attend<R: Files + Wait + Copy + Drop, E: Write>(
     }
 }
 
-// Reads the scan directory, and tells faults of its services' directories on `errors`. Where that gives no listing, the error is the answer
-// for those who asked for a scan.
+// Reads the scan directory, and tells faults of its services' directories on `errors`. Where that
+// gives no listing, the error is the answer for those who asked for a scan.
 fn read_scan<R: Files + Copy + Drop, E: Write>(
     rt: &R,
     shared: &Shared,

@@ -1,4 +1,5 @@
-//! The socket of a tree. At any moment at most one server listens on it, and none but its owner can connect.
+//! The socket of a tree. At any moment at most one server listens on it, and none but its owner can
+//! connect.
 use server_rules::{FileIdentity, says_abandoned};
 use std::alloc::Global;
 use std::fs::{self, DirBuilder, File, Permissions};
@@ -14,7 +15,8 @@ const SOCKET_MODE: u32 = 0o600;
 /// The rights of the folder in which it is made.
 const FOLDER_MODE: u32 = 0o700;
 
-/// The most tries to make and lock the folder. A try fails where the server that had the folder before has just removed it.
+/// The most tries to make and lock the folder. A try fails where the server that had the folder
+/// before has just removed it.
 const TRIES: u32 = 100;
 
 /// The file of a socket that a server has made.
@@ -24,8 +26,9 @@ pub struct SocketFile {
 }
 
 impl SocketFile {
-    /// Removes the file at this path, if it is still this one: another server may have put its own there. Call it while the listener is open: as
-    /// long as it is, the system gives the inode number of its socket to no other file.
+    /// Removes the file at this path, if it is still this one: another server may have put its own
+    /// there. Call it while the listener is open: as long as it is, the system gives the inode
+    /// number of its socket to no other file.
     pub fn remove<R: Files>(&self, rt: &R, path: &str) {
         if let Ok(found) = fs::symlink_metadata(rt, path) {
             if self.identity.is_that_of(&FileIdentity::of(&found)) {
@@ -35,9 +38,10 @@ impl SocketFile {
     }
 }
 
-/// A listener on this path, and the file of its socket. The socket is made in the folder PATH.new, and renamed into place once it listens.
-/// The folder is locked meanwhile, and removed afterwards. An abandoned socket at the path is replaced. It is an error where a server lives
-/// there or starts at the same time, or where another file is; what is there is left as it is.
+/// A listener on this path, and the file of its socket. The socket is made in the folder PATH.new,
+/// and renamed into place once it listens. The folder is locked meanwhile, and removed afterwards.
+/// An abandoned socket at the path is replaced. It is an error where a server lives there or starts
+/// at the same time, or where another file is; what is there is left as it is.
 pub fn listen<R: Net + Files<File = File>>(
     rt: &R,
     alloc: Global,
@@ -58,8 +62,8 @@ pub fn listen<R: Net + Files<File = File>>(
     placed
 }
 
-// Makes the folder, if it isn't there, and locks it. A lock ends with its process at the latest, so a folder that was left behind is taken
-// over.
+// Makes the folder, if it isn't there, and locks it. A lock ends with its process at the latest, so
+// a folder that was left behind is taken over.
 fn lock_folder<R: Files<File = File>>(rt: &R, folder: &str) -> io::Result<File> {
     for _ in 0..TRIES {
         match DirBuilder::new().mode(FOLDER_MODE).create(rt, folder) {
@@ -75,8 +79,9 @@ fn lock_folder<R: Files<File = File>>(rt: &R, folder: &str) -> io::Result<File> 
     Err(ErrorKind::AddrInUse.into())
 }
 
-// Locks the folder; None where it was removed or replaced meanwhile, so that it is to be made again. An error where another server has locked it,
-// or where it is no folder with the rights 0700.
+// Locks the folder; None where it was removed or replaced meanwhile, so that it is to be made
+// again. An error where another server has locked it, or where it is no folder with the rights
+// 0700.
 fn try_lock<R: Files<File = File>>(rt: &R, folder: &str) -> io::Result<Option<File>> {
     let found = match fs::symlink_metadata(rt, folder) {
         Ok(found) => found,
@@ -103,7 +108,8 @@ fn try_lock<R: Files<File = File>>(rt: &R, folder: &str) -> io::Result<Option<Fi
     }
 }
 
-// Makes the socket in the folder, and renames it into place. `PermissionDenied` where the folder belongs to another user.
+// Makes the socket in the folder, and renames it into place. `PermissionDenied` where the folder
+// belongs to another user.
 fn place<R: Net + Files>(
     rt: &R,
     folder: &str,

@@ -9,7 +9,8 @@ use svc_commands::{
     compile_svlisten, compile_svscanctl, compile_svstat, compile_svwait,
 };
 
-// Each row is the words of a command, with one bar between two, and what is read in them, or the fault.
+// Each row is the words of a command, with one bar between two, and what is read in them, or the
+// fault.
 
 // The name, and the letters.
 const SVC: &str = "-o|web = web uO
@@ -170,10 +171,10 @@ web|60|3|-1 = Unknown
 -h = Unknown";
 
 /// A command, as it is compared with the text of a row.
-type Shown = ArrayVec<u8, 256>;
+type ShownCommand = ArrayVec<u8, 256>;
 
 #[derive(Clone, Copy, Debug)]
-enum Tool {
+enum CommandTool {
     Svc,
     Svscanctl,
     Svwait,
@@ -183,18 +184,18 @@ enum Tool {
 }
 
 // Adds a word behind those before it.
-fn add(shown: &mut Shown, word: &[u8]) {
+fn add(shown: &mut ShownCommand, word: &[u8]) {
     if !shown.is_empty() {
         add_bytes(shown, b" ");
     }
     add_bytes(shown, word);
 }
 
-fn add_bytes(shown: &mut Shown, bytes: &[u8]) {
+fn add_bytes(shown: &mut ShownCommand, bytes: &[u8]) {
     let _ = shown.try_extend_from_slice(bytes);
 }
 
-fn show_svc(words: &[&str], shown: &mut Shown) -> Result<(), UsageFault> {
+fn show_svc(words: &[&str], shown: &mut ShownCommand) -> Result<(), UsageFault> {
     let command = compile_svc(words)?;
     add(shown, command.name.as_bytes());
     add(shown, b"");
@@ -204,7 +205,7 @@ fn show_svc(words: &[&str], shown: &mut Shown) -> Result<(), UsageFault> {
     Ok(())
 }
 
-fn show_svscanctl(words: &[&str], shown: &mut Shown) -> Result<(), UsageFault> {
+fn show_svscanctl(words: &[&str], shown: &mut ShownCommand) -> Result<(), UsageFault> {
     for letter in &compile_svscanctl(words)?.letters {
         add_bytes(
             shown,
@@ -229,7 +230,7 @@ fn condition_letter(condition: Condition) -> u8 {
     }
 }
 
-fn show_number(alloc: Global, number: u32, shown: &mut Shown) -> Result<(), UsageFault> {
+fn show_number(alloc: Global, number: u32, shown: &mut ShownCommand) -> Result<(), UsageFault> {
     let Ok(text) = format!(in alloc; "{number}") else {
         return Err(UsageFault::NoMemory);
     };
@@ -237,7 +238,11 @@ fn show_number(alloc: Global, number: u32, shown: &mut Shown) -> Result<(), Usag
     Ok(())
 }
 
-fn show_wait(alloc: Global, wait: &WaitCommand, shown: &mut Shown) -> Result<(), UsageFault> {
+fn show_wait(
+    alloc: Global,
+    wait: &WaitCommand,
+    shown: &mut ShownCommand,
+) -> Result<(), UsageFault> {
     add(shown, &[condition_letter(wait.condition)]);
     add(shown, if wait.mode == Mode::All { b"a" } else { b"o" });
     show_number(alloc, wait.timeout, shown)?;
@@ -247,7 +252,7 @@ fn show_wait(alloc: Global, wait: &WaitCommand, shown: &mut Shown) -> Result<(),
     Ok(())
 }
 
-fn show_svstat(alloc: Global, words: &[&str], shown: &mut Shown) -> Result<(), UsageFault> {
+fn show_svstat(alloc: Global, words: &[&str], shown: &mut ShownCommand) -> Result<(), UsageFault> {
     let command = compile_svstat(alloc, words)?;
     add(shown, command.name.as_bytes());
     for field in &command.fields {
@@ -256,7 +261,11 @@ fn show_svstat(alloc: Global, words: &[&str], shown: &mut Shown) -> Result<(), U
     Ok(())
 }
 
-fn show_svlisten(alloc: Global, words: &[&str], shown: &mut Shown) -> Result<(), UsageFault> {
+fn show_svlisten(
+    alloc: Global,
+    words: &[&str],
+    shown: &mut ShownCommand,
+) -> Result<(), UsageFault> {
     let command = compile_svlisten(alloc, words)?;
     show_wait(alloc, &command.wait, shown)?;
     add(shown, b"--");
@@ -266,7 +275,11 @@ fn show_svlisten(alloc: Global, words: &[&str], shown: &mut Shown) -> Result<(),
     Ok(())
 }
 
-fn show_permafailon(alloc: Global, words: &[&str], shown: &mut Shown) -> Result<(), UsageFault> {
+fn show_permafailon(
+    alloc: Global,
+    words: &[&str],
+    shown: &mut ShownCommand,
+) -> Result<(), UsageFault> {
     let command = compile_permafailon(alloc, words)?;
     add(shown, command.name.as_bytes());
     show_number(alloc, command.secs, shown)?;
@@ -276,7 +289,7 @@ fn show_permafailon(alloc: Global, words: &[&str], shown: &mut Shown) -> Result<
 }
 
 // What the list names of the codes 0 to 9 and SIGTERM.
-fn show_list(list: &DeathList, shown: &mut Shown) {
+fn show_list(list: &DeathList, shown: &mut ShownCommand) {
     add(shown, b"");
     for code in 0..10u8 {
         if list.names(Exit::Code(code)) {
@@ -289,14 +302,19 @@ fn show_list(list: &DeathList, shown: &mut Shown) {
 }
 
 // What a tool reads in the words.
-fn show(alloc: Global, tool: Tool, words: &[&str], shown: &mut Shown) -> Result<(), UsageFault> {
+fn show(
+    alloc: Global,
+    tool: CommandTool,
+    words: &[&str],
+    shown: &mut ShownCommand,
+) -> Result<(), UsageFault> {
     match tool {
-        Tool::Svc => show_svc(words, shown),
-        Tool::Svscanctl => show_svscanctl(words, shown),
-        Tool::Svwait => show_wait(alloc, &compile_svwait(alloc, words)?, shown),
-        Tool::Svlisten => show_svlisten(alloc, words, shown),
-        Tool::Svstat => show_svstat(alloc, words, shown),
-        Tool::Permafailon => show_permafailon(alloc, words, shown),
+        CommandTool::Svc => show_svc(words, shown),
+        CommandTool::Svscanctl => show_svscanctl(words, shown),
+        CommandTool::Svwait => show_wait(alloc, &compile_svwait(alloc, words)?, shown),
+        CommandTool::Svlisten => show_svlisten(alloc, words, shown),
+        CommandTool::Svstat => show_svstat(alloc, words, shown),
+        CommandTool::Permafailon => show_permafailon(alloc, words, shown),
     }
 }
 
@@ -313,8 +331,8 @@ fn fault_name(fault: UsageFault) -> &'static [u8] {
 }
 
 // A tool answers so.
-fn answers(rt: &impl Abort, alloc: Global, tool: Tool, words: &[&str], answer: &str) {
-    let mut shown = Shown::new();
+fn answers(rt: &impl Abort, alloc: Global, tool: CommandTool, words: &[&str], answer: &str) {
+    let mut shown = ShownCommand::new();
     if let Err(fault) = show(alloc, tool, words, &mut shown) {
         shown.clear();
         add(&mut shown, fault_name(fault));
@@ -323,14 +341,14 @@ fn answers(rt: &impl Abort, alloc: Global, tool: Tool, words: &[&str], answer: &
 }
 
 // A row of a tool.
-fn row_agrees(rt: &impl Abort, alloc: Global, tool: Tool, row: &str) {
+fn row_agrees(rt: &impl Abort, alloc: Global, tool: CommandTool, row: &str) {
     let (line, answer) = row.split_once(" = ").expect(rt, "a row");
     let words: Vec<&str> = line.split('|').collect(alloc).expect(rt, "memory");
     answers(rt, alloc, tool, &words, answer);
 }
 
 // The rows of a tool, which wants at least one word.
-fn rows_agree(rt: &impl Abort, alloc: Global, tool: Tool, rows: &str) {
+fn rows_agree(rt: &impl Abort, alloc: Global, tool: CommandTool, rows: &str) {
     answers(rt, alloc, tool, &[], "Missing");
     for row in rows.split('\n') {
         row_agrees(rt, alloc, tool, row);
@@ -339,51 +357,67 @@ fn rows_agree(rt: &impl Abort, alloc: Global, tool: Tool, rows: &str) {
 
 #[test]
 fn reads_the_words_of_svc(rt: HostRuntime) {
-    rows_agree(&rt, rt.alloc(), Tool::Svc, SVC);
+    rows_agree(&rt, rt.alloc(), CommandTool::Svc, SVC);
 }
 
 #[test]
 fn reads_the_words_of_svscanctl(rt: HostRuntime) {
-    rows_agree(&rt, rt.alloc(), Tool::Svscanctl, SVSCANCTL);
+    rows_agree(&rt, rt.alloc(), CommandTool::Svscanctl, SVSCANCTL);
 }
 
 #[test]
 fn reads_the_words_of_svwait(rt: HostRuntime) {
-    rows_agree(&rt, rt.alloc(), Tool::Svwait, SVWAIT);
+    rows_agree(&rt, rt.alloc(), CommandTool::Svwait, SVWAIT);
 }
 
 #[test]
 fn reads_the_words_of_svlisten(rt: HostRuntime) {
-    rows_agree(&rt, rt.alloc(), Tool::Svlisten, SVLISTEN);
+    rows_agree(&rt, rt.alloc(), CommandTool::Svlisten, SVLISTEN);
 }
 
 #[test]
 fn reads_the_words_of_svstat(rt: HostRuntime) {
-    rows_agree(&rt, rt.alloc(), Tool::Svstat, SVSTAT);
+    rows_agree(&rt, rt.alloc(), CommandTool::Svstat, SVSTAT);
 }
 
 #[test]
 fn reads_the_words_of_permafailon(rt: HostRuntime) {
-    rows_agree(&rt, rt.alloc(), Tool::Permafailon, PERMAFAILON);
+    rows_agree(&rt, rt.alloc(), CommandTool::Permafailon, PERMAFAILON);
 }
 
 // The tool reads the words, or is refused memory.
-fn reads_or_tells(rt: &impl Abort, alloc: Global, tool: Tool, words: &[&str]) {
-    let answer = show(alloc, tool, words, &mut Shown::new());
+fn reads_or_tells(rt: &impl Abort, alloc: Global, tool: CommandTool, words: &[&str]) {
+    let answer = show(alloc, tool, words, &mut ShownCommand::new());
     assert!(rt;
         matches!(answer, Ok(()) | Err(UsageFault::NoMemory)),
         "{tool:?}"
     );
 }
 
-// With the Nth growth refused (`rt try --test --fail-alloc N`) each call answers as it should, or NoMemory.
+// With the Nth growth refused (`rt try --test --fail-alloc N`) each call answers as it should, or
+// NoMemory.
 #[test]
 fn a_refused_growth_is_told(rt: HostRuntime) {
     let alloc = rt.alloc();
-    reads_or_tells(&rt, alloc, Tool::Svwait, &["-U", "-t", "5", "a", "b"]);
-    reads_or_tells(&rt, alloc, Tool::Svlisten, &["-r", "a", "--", "prog", "x"]);
-    reads_or_tells(&rt, alloc, Tool::Svstat, &["-o", "up,pid", "web"]);
-    reads_or_tells(&rt, alloc, Tool::Permafailon, &["web", "60", "3", "1-2"]);
+    reads_or_tells(
+        &rt,
+        alloc,
+        CommandTool::Svwait,
+        &["-U", "-t", "5", "a", "b"],
+    );
+    reads_or_tells(
+        &rt,
+        alloc,
+        CommandTool::Svlisten,
+        &["-r", "a", "--", "prog", "x"],
+    );
+    reads_or_tells(&rt, alloc, CommandTool::Svstat, &["-o", "up,pid", "web"]);
+    reads_or_tells(
+        &rt,
+        alloc,
+        CommandTool::Permafailon,
+        &["web", "60", "3", "1-2"],
+    );
 }
 
 // A fault has this number, and its text has this part.

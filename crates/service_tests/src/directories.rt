@@ -7,7 +7,7 @@ use std::alloc::{Allocator, Global};
 use std::process::Abort;
 
 // The files of a directory, with their texts.
-type Listing<'a> = &'a [(ServiceFile, &'a [u8])];
+type FileTexts<'a> = &'a [(ServiceFile, &'a [u8])];
 
 const RUN: (ServiceFile, &[u8]) = (ServiceFile::Run, b"");
 
@@ -15,10 +15,11 @@ const LONGRUN: (ServiceFile, &[u8]) = (ServiceFile::Kind, b"longrun\n");
 
 const ONESHOT: (ServiceFile, &[u8]) = (ServiceFile::Kind, b"oneshot\n");
 
-// What `read` says of these files, where the reading of one of them fails; and the file whose reading failed.
+// What `read` says of these files, where the reading of one of them fails; and the file whose
+// reading failed.
 fn read_failing<A: Allocator + Copy>(
     alloc: A,
-    files: Listing<'_>,
+    files: FileTexts<'_>,
     failing: Option<ServiceFile>,
 ) -> (Result<Found, DirFault>, Option<ServiceFile>) {
     let mut files = FakeFiles::new(files);
@@ -31,7 +32,7 @@ fn read_failing<A: Allocator + Copy>(
 fn answers<A: Allocator + Copy>(
     rt: &impl Abort,
     alloc: A,
-    files: Listing<'_>,
+    files: FileTexts<'_>,
     answer: Result<Found, DirFault>,
 ) {
     assert_eq!(rt;
@@ -41,7 +42,8 @@ fn answers<A: Allocator + Copy>(
     );
 }
 
-// What a directory says with `run` and this file, where the file says this number; 0 for a descriptor that is noted.
+// What a directory says with `run` and this file, where the file says this number; 0 for a
+// descriptor that is noted.
 fn found_with(file: ServiceFile, number: u32) -> Found {
     let mut config = Config::plain();
     let mut note = None;
@@ -59,8 +61,8 @@ fn found_with(file: ServiceFile, number: u32) -> Found {
     Found { config, note }
 }
 
-// A file beside `run`, the number that it says or that its absence gives, and its text, in which a dollar is a newline, a circumflex the
-// byte 0xff, and a tilde the byte 0xfe.
+// A file beside `run`, the number that it says or that its absence gives, and its text, in which a
+// dollar is a newline, a circumflex the byte 0xff, and a tilde the byte 0xfe.
 const TEXTS: &str = "type|0|longrun
 finish|1|
 finish|1|^
@@ -242,11 +244,12 @@ const IN_ORDER: &[ServiceFile] = &[
     ServiceFile::DownSignal,
 ];
 
-// Where the reading of this file fails, the directory has this fault; and this is the file whose reading failed.
+// Where the reading of this file fails, the directory has this fault; and this is the file whose
+// reading failed.
 fn answers_failing(
     rt: &impl Abort,
     alloc: Global,
-    files: Listing<'_>,
+    files: FileTexts<'_>,
     failing: ServiceFile,
     wanted: (DirFault, Option<ServiceFile>),
 ) {
@@ -259,7 +262,7 @@ fn answers_failing(
 fn fails_in_turn(
     rt: &impl Abort,
     alloc: Global,
-    files: Listing<'_>,
+    files: FileTexts<'_>,
     looked_at: usize,
     fault: DirFault,
 ) {
@@ -282,8 +285,9 @@ fn a_failed_reading_is_answered_unless_a_fault_came_before(rt: HostRuntime) {
     fails_in_turn(&rt, alloc, &[ONESHOT], 1, DirFault::NoRun);
 }
 
-// Whether these files are read on a heap of so many bytes; a refused growth, and nothing else, is answered.
-fn is_read_on(rt: &impl Abort, alloc: Global, bytes: usize, files: Listing<'_>) -> bool {
+// Whether these files are read on a heap of so many bytes; a refused growth, and nothing else, is
+// answered.
+fn is_read_on(rt: &impl Abort, alloc: Global, bytes: usize, files: FileTexts<'_>) -> bool {
     let heap = LocalHeap::new(alloc, bytes).expect(rt, "memory");
     match read(&heap, &mut FakeFiles::new(files), Name::default()) {
         Ok(found) => {
@@ -297,10 +301,11 @@ fn is_read_on(rt: &impl Abort, alloc: Global, bytes: usize, files: Listing<'_>) 
     }
 }
 
-// On heaps of a growing size each growth is the first one refused; then it is that, and nothing else, that is answered.
+// On heaps of a growing size each growth is the first one refused; then it is that, and nothing
+// else, that is answered.
 #[test]
 fn a_refused_growth_is_answered(rt: HostRuntime) {
-    let texts: Listing<'_> = &[
+    let texts: FileTexts<'_> = &[
         RUN,
         LONGRUN,
         (ServiceFile::TimeoutKill, &[b'0'; 45]),

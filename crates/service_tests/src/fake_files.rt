@@ -8,8 +8,8 @@ use std::alloc::{AllocError, Allocator};
 /// The most bytes of a file that one reading gives.
 const READING_LIMIT: usize = 4097;
 
-/// Directories in memory: each service has these files. The first reading of the file `failing` fails, refused growths are
-/// counted, and `failed` is the file whose reading gave nothing last.
+/// Directories in memory: each service has these files. The first reading of the file `failing`
+/// fails, refused growths are counted, and `failed` is the file whose reading gave nothing last.
 #[derive(Drop)]
 pub struct FakeFiles<'a> {
     pub files: &'a [(ServiceFile, &'a [u8])],

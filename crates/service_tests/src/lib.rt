@@ -1,4 +1,5 @@
-//! Tests of service directories, command words, tallies and the service machine: what no clause says.
+//! Tests of service directories, command words, tallies and the service machine: what no clause
+//! says.
 #![tactic(auto)]
 
 #[cfg(test)]

@@ -9,11 +9,12 @@ use std::alloc::Global;
 use std::process::Abort;
 use supervise_core::{Change, ChartState, Out, Phase, Row, Service, ServiceState};
 
-// Two services that began alike. One takes its changes by `change`, the other each by the call that is named after it.
+// Two services that began alike. One takes its changes by `change`, the other each by the call that
+// is named after it.
 type Pair = (Service<Global>, Service<Global>);
 
 // What a change gives: its marks and its orders, and whether it is stale.
-type Given<'a> = (&'a [Mark], &'a [Order], bool);
+type GivenOut<'a> = (&'a [Mark], &'a [Order], bool);
 
 fn at(rt: &impl Abort, millis: u64) -> At {
     At::new(millis).expect(rt, "a moment")
@@ -34,7 +35,7 @@ fn notify(rt: &impl Abort, generation: u64, bytes: &[u8]) -> Change {
 }
 
 // The answer to a change is this.
-fn gives(rt: &impl Abort, out: &Out, now: u64, wanted: Given) {
+fn gives(rt: &impl Abort, out: &Out, now: u64, wanted: GivenOut) {
     let found = (out.events.as_slice(), out.orders.as_slice(), out.stale);
     assert_eq!(rt; found, wanted, "at {now}");
 }
@@ -71,7 +72,7 @@ fn play_one(
     service: &mut Service<Global>,
     now: u64,
     change: &Change,
-    wanted: Given,
+    wanted: GivenOut,
 ) {
     assert!(rt; service.chart().generation < 9);
     let out = service.change(change, at(rt, now));
@@ -84,7 +85,7 @@ fn play_other(
     service: &mut Service<Global>,
     now: u64,
     change: &Change,
-    wanted: Given,
+    wanted: GivenOut,
 ) {
     assert!(rt; service.chart().generation < 9);
     let out = take(service, change, at(rt, now));
@@ -92,7 +93,7 @@ fn play_other(
 }
 
 // Both take this change at this moment, and give this.
-fn play(rt: &impl Abort, pair: &mut Pair, now: u64, change: &Change, wanted: Given) {
+fn play(rt: &impl Abort, pair: &mut Pair, now: u64, change: &Change, wanted: GivenOut) {
     play_one(rt, &mut pair.0, now, change, wanted);
     play_other(rt, &mut pair.1, now, change, wanted);
 }
@@ -223,7 +224,7 @@ fn begin(
     alloc: Global,
     (sid, name): (Sid, Name),
     config: Config,
-    wanted: Given,
+    wanted: GivenOut,
 ) -> Service<Global> {
     let begun = Service::begin(alloc, sid, name, config, At::zero());
     let (service, out) = begun.expect(rt, "memory");
@@ -253,7 +254,7 @@ fn a_service_takes_each_change(rt: HostRuntime) {
         ..Config::plain()
     };
     let first = [Order::Run(Sid(1), 1, web, Some(3))];
-    let given: Given = (&[Mark::SupervisorStarted], &first, false);
+    let given: GivenOut = (&[Mark::SupervisorStarted], &first, false);
     let service = begin(&rt, rt.alloc(), (Sid(1), web), config, given);
     let other = begin(&rt, rt.alloc(), (Sid(1), web), config, given);
     play_all(&rt, rt.alloc(), web, &mut (service, other));
@@ -265,7 +266,7 @@ fn a_service_with_a_file_down_begins_without_a_run(rt: HostRuntime) {
         down: true,
         ..Config::plain()
     };
-    let given: Given = (&[Mark::SupervisorStarted], &[], false);
+    let given: GivenOut = (&[Mark::SupervisorStarted], &[], false);
     let service = begin(&rt, rt.alloc(), (Sid(2), Name::default()), config, given);
     assert_eq!(rt;
         (service.sid(), service.timer(), service.chart().phase),
@@ -298,7 +299,8 @@ fn add_letter(rt: &impl Abort, chart: ChartState, letter: ControlLetter, out: &m
     chart.control_onto(&letters, at(rt, 6), out);
 }
 
-// A start, a stale one and a letter are added to what the beginning of another service gave: an order, and then one more.
+// A start, a stale one and a letter are added to what the beginning of another service gave: an
+// order, and then one more.
 fn add_changes(
     rt: &impl Abort,
     begun: &[Order],

@@ -1,5 +1,5 @@
-//! What no clause says: that calls succeed with ample memory, and that each growth may be refused; and the worked values of a
-//! tally and of lists, as definitions and code have them.
+//! What no clause says: that calls succeed with ample memory, and that each growth may be refused;
+//! and the worked values of a tally and of lists, as definitions and code have them.
 use death_tally::{DeathList, Tally, permafails};
 use linked_list_allocator::LocalHeap;
 use s6_events::{At, Exit};
@@ -10,7 +10,8 @@ fn at(rt: &impl Abort, millis: u64) -> At {
     At::new(millis).expect(rt, "a moment")
 }
 
-// A tally of so many deaths at most, after five deaths with the code 1, each 1100 ms after the one before.
+// A tally of so many deaths at most, after five deaths with the code 1, each 1100 ms after the one
+// before.
 fn after_five(rt: &impl Abort, alloc: Global, most: u16) -> Tally<Global> {
     let mut tally = Tally::new(alloc, most).expect(rt, "memory");
     tally.add(at(rt, 100), Exit::Code(1));
@@ -114,7 +115,8 @@ fn is_listed<A: Allocator + Copy>(alloc: A, tally: Tally<A>) -> bool {
     tally.list(alloc).is_ok()
 }
 
-// On a heap of so many bytes a list is read, a tally is made, and its list; or each of these is refused.
+// On a heap of so many bytes a list is read, a tally is made, and its list; or each of these is
+// refused.
 fn wants_on_heap(rt: &impl Abort, alloc: Global, bytes: usize, wanted: [bool; 3]) {
     let heap = LocalHeap::new(alloc, bytes).expect(rt, "memory");
     let is_read = DeathList::parse(&heap, b"1,2,3").is_ok();

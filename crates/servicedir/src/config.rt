@@ -9,10 +9,12 @@ pub struct Config {
     pub down: bool,
     /// There is a `finish`, which runs after each death of `run`.
     pub finish: bool,
-    /// The descriptor on which the daemon writes a newline when it is ready: 1, or 3 to 9. None: it never tells that it is ready. Page
-    /// `notifywhenup`; that 0, 2 and descriptors over 9 are not served is chosen here.
+    /// The descriptor on which the daemon writes a newline when it is ready: 1, or 3 to 9. None: it
+    /// never tells that it is ready. Page `notifywhenup`; that 0, 2 and descriptors over 9 are not
+    /// served is chosen here.
     pub notification_fd: Option<u8>,
-    /// How many milliseconds after its down signal a service that has not died gets SIGKILL; 0: never.
+    /// How many milliseconds after its down signal a service that has not died gets SIGKILL; 0:
+    /// never.
     pub timeout_kill: u32,
     /// How many milliseconds after its start a `finish` that has not ended gets SIGKILL; 0: never.
     pub timeout_finish: u32,
@@ -23,9 +25,10 @@ pub struct Config {
 }
 
 impl Config {
-    /// What a directory with nothing but `run` says. The service is started, has no `finish`, never tells that it is ready, and may
-    /// take as long as it likes to go down; a `finish` would have 5000 ms. 100 deaths are kept, and SIGTERM takes it down. These are
-    /// the defaults of page `servicedir`. Takes no memory.
+    /// What a directory with nothing but `run` says. The service is started, has no `finish`, never
+    /// tells that it is ready, and may take as long as it likes to go down; a `finish` would have
+    /// 5000 ms. 100 deaths are kept, and SIGTERM takes it down. These are the defaults of page
+    /// `servicedir`. Takes no memory.
     pub fn plain() -> Config
         ensures { result ≡ plain_config }
     {

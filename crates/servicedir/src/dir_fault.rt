@@ -4,9 +4,9 @@ ghost use Rattle.std.specs.Prelude.{◌≡◌};
 use crate::files::ReadFault;
 use thiserror::Error;
 
-/// Why a service directory was not read. `NotifyFd` never keeps one from being read: it is only the `note` of a `Found`. `BadName` is for
-/// a program that lists a scan directory and finds an entry whose name is no service name. `NotLongrun`, `NotifyFd` and `BadName` are
-/// chosen here.
+/// Why a service directory was not read. `NotifyFd` never keeps one from being read: it is only the
+/// `note` of a `Found`. `BadName` is for a program that lists a scan directory and finds an entry
+/// whose name is no service name. `NotLongrun`, `NotifyFd` and `BadName` are chosen here.
 #[derive(Clone, Copy, Debug, PartialEq, Eq, Error)]
 pub enum DirFault {
     /// There is no `run`. Page `servicedir`.

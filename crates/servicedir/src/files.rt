@@ -5,7 +5,8 @@ ghost use Rattle.servicedir.specs.Files.{Directory, reading_limit, file_name, Co
 use s6_events::Name;
 use std::alloc::Allocator;
 
-/// The files of a service directory that are read. Page `servicedir`, but for `type`, which is a file of s6-rc.
+/// The files of a service directory that are read. Page `servicedir`, but for `type`, which is a
+/// file of s6-rc.
 #[derive(Clone, Copy, PartialEq, Eq, Debug)]
 pub enum ServiceFile {
     /// `run`: the program of the service.
@@ -50,20 +51,22 @@ impl ServiceFile {
 /// Why a reading of a file failed.
 #[derive(Clone, Copy, PartialEq, Eq, Debug)]
 pub enum ReadFault {
-    /// The file could not be looked at or read; the `Files` that was asked counts that. That a file is absent is no failure.
+    /// The file could not be looked at or read; the `Files` that was asked counts that. That a file
+    /// is absent is no failure.
     Io,
     /// Memory was refused; the `Files` that was asked counts that.
     NoMemory,
 }
 
-/// Where the files of service directories are read. What this gives stays the same while they are read: since a real directory may change
-/// meanwhile, an implementation takes a copy of its files first. A reading is bounded: of a file of over 4096 bytes it gives the first
-/// 4097, and so the reader knows that the text is too long to be valid.
+/// Where the files of service directories are read. What this gives stays the same while they are
+/// read: since a real directory may change meanwhile, an implementation takes a copy of its files
+/// first. A reading is bounded: of a file of over 4096 bytes it gives the first 4097, and so the
+/// reader knows that the text is too long to be valid.
 pub trait Files {
     ghost use Rattle.servicedir.specs.declared.files.ServiceFile.{ServiceFile};
 
-    /// What a reading gives of each file of the service of this name: None where the file is absent, else its bytes, or the first
-    /// 4097 where there are more than 4096.
+    /// What a reading gives of each file of the service of this name: None where the file is
+    /// absent, else its bytes, or the first 4097 where there are more than 4096.
     ghost gives: { Self → List ℕ → Directory };
 
     /// How many readings failed so far.
@@ -83,7 +86,8 @@ pub trait Files {
             (failed self.new) }
         ensures memory { CountsRefusal result (refused self.old) (refused self.new) };
 
-    /// The bytes of the file, or the first 4097 where there are more than 4096; None where it is absent.
+    /// The bytes of the file, or the first 4097 where there are more than 4096; None where it is
+    /// absent.
     fn text<A: Allocator + Copy>(
         &mut self,
         alloc: A,

@@ -10,26 +10,28 @@ use crate::number::{parse_number, without_newline};
 use crate::signal::parse_signal;
 
 /// The most bytes of a file whose text may be valid.
-const TEXT_LIMIT: usize = 4096;
+const FILE_TEXT_LIMIT: usize = 4096;
 
 /// The most deaths that are kept.
 const DEATH_LIMIT: u32 = 4096;
 
-// The number that the text of a file says; None where the text is not valid. A text of more than 4096 bytes (`TEXT_LIMIT`) never is.
+// The number that the text of a file says; None where the text is not valid. A text of more than
+// 4096 bytes (`FILE_TEXT_LIMIT`) never is.
 pub(crate) fn number_in_text(text: &[u8]) -> Option<u32>
     ensures { result ≡ number_in (Some text.now) }
 {
-    if text.len() > TEXT_LIMIT {
+    if text.len() > FILE_TEXT_LIMIT {
         return None;
     }
     parse_number(text)
 }
 
-// The signal that the text of a file says; None where the text is not valid. A text of more than 4096 bytes (`TEXT_LIMIT`) never is.
+// The signal that the text of a file says; None where the text is not valid. A text of more than
+// 4096 bytes (`FILE_TEXT_LIMIT`) never is.
 pub(crate) fn signal_in_text(text: &[u8]) -> Option<u8>
     ensures { result ≡ signal_in (Some text.now) }
 {
-    if text.len() > TEXT_LIMIT {
+    if text.len() > FILE_TEXT_LIMIT {
         return None;
     }
     parse_signal(text)
@@ -42,8 +44,8 @@ pub(crate) fn is_longrun_text(text: &[u8]) -> bool
     without_newline(text) == b"longrun".as_slice()
 }
 
-// This number as a descriptor, if it is one on which a daemon may say that it is ready: 1, or 3 to 9. None for any other one, or where there is no
-// number.
+// This number as a descriptor, if it is one on which a daemon may say that it is ready: 1, or 3 to
+// 9. None for any other one, or where there is no number.
 pub(crate) fn served_descriptor(number: Option<u32>) -> Option<u8>
     ensures { result ≡ served_number number }
 {
@@ -53,8 +55,9 @@ pub(crate) fn served_descriptor(number: Option<u32>) -> Option<u8>
     }
 }
 
-// What is noted, for the user, of a notification-fd file that is there: a fault where it names no descriptor that is served, else nothing.
-// `descriptor` is the served one that its text names; None where it names none.
+// What is noted, for the user, of a notification-fd file that is there: a fault where it names no
+// descriptor that is served, else nothing. `descriptor` is the served one that its text names; None
+// where it names none.
 pub(crate) fn note_of_descriptor(descriptor: Option<u8>) -> Option<DirFault>
     ensures { result ≡ note_beside descriptor }
 {
@@ -64,7 +67,8 @@ pub(crate) fn note_of_descriptor(descriptor: Option<u8>) -> Option<DirFault>
     }
 }
 
-// How many deaths are kept, where max-death-tally says this number: at most 4096, and 100 where it says none.
+// How many deaths are kept, where max-death-tally says this number: at most 4096, and 100 where it
+// says none.
 pub(crate) fn death_tally(number: Option<u32>) -> u16
     ensures { result ≡ min (unwrap_or number 100) 4096 }
 {

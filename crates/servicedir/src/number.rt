@@ -7,9 +7,10 @@ ghost use Rattle.servicedir.specs.Number.{is_digit, are_digits, value_of_digits,
 /// The greatest number of a number file.
 const GREATEST_NUMBER: u32 = 4_294_967_295;
 
-/// The number that the text of a number file says: one or more ASCII digits, perhaps with leading zeros, and at most one newline
-/// behind them. The number is at most 4294967295. A number that was printed in decimal is read as that number. None for any other
-/// text. Page `servicedir`; that a second newline, or a byte that is no digit, makes the text invalid is chosen here.
+/// The number that the text of a number file says: one or more ASCII digits, perhaps with leading
+/// zeros, and at most one newline behind them. The number is at most 4294967295. A number that was
+/// printed in decimal is read as that number. None for any other text. Page `servicedir`; that a
+/// second newline, or a byte that is no digit, makes the text invalid is chosen here.
 #[tactic(auto, using(crate::proofs::Decimals::read_back))]
 pub fn parse_number(text: &[u8]) -> Option<u32>
     ensures value { result ≡ number_of text.now }
@@ -19,8 +20,8 @@ pub fn parse_number(text: &[u8]) -> Option<u32>
     parse_digits(without_newline(text), GREATEST_NUMBER)
 }
 
-/// The number that a text of digits says, perhaps with leading zeros; None where the text is empty, has any other byte, or says more than `most`.
-/// Takes no memory.
+/// The number that a text of digits says, perhaps with leading zeros; None where the text is empty,
+/// has any other byte, or says more than `most`. Takes no memory.
 #[tactic(auto, unfolding(crate::specs::Number::number_up_to))]
 pub fn parse_digits(text: &[u8], most: u32) -> Option<u32>
     ensures value { result ≡ number_up_to most text.now }
@@ -56,7 +57,8 @@ fn all_are_digits(text: &[u8]) -> bool
     text.iter().all(|byte| (b'0'..=b'9').contains(byte))
 }
 
-// The number that digits say; None where it is over `most`. It stops there, since more digits never make the number less.
+// The number that digits say; None where it is over `most`. It stops there, since more digits never
+// make the number less.
 fn value_up_to(digits: &[u8], most: u32) -> Option<u32>
     requires { IsTrue (are_digits digits.now) }
     ensures { result ≡ (if nat_le (value_of_digits digits.now) most

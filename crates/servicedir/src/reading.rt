@@ -18,16 +18,19 @@ use std::alloc::Allocator;
 pub struct Found {
     /// The configuration.
     pub config: Config,
-    /// `NotifyFd` where a notification-fd is there and names no descriptor that is served. The service then never tells that it is ready.
+    /// `NotifyFd` where a notification-fd is there and names no descriptor that is served. The
+    /// service then never tells that it is ready.
     pub note: Option<DirFault>,
 }
 
-/// Reads the directory of the service of this name. The files are looked at in this order: `run`, `type`, `finish`, `down`,
-/// `notification-fd`, `timeout-kill`, `timeout-finish`, `max-death-tally`, `down-signal`. Of `run`, `finish` and `down` only
-/// the presence counts. With an invalid text in a file after `type`, the configuration is as if the file were absent. The first
-/// fault is answered, and no file after it is looked at: `NoRun` where there is no `run`, `NotLongrun` where `type` says something
-/// else than `longrun`, `Io` where a reading failed, `NoMemory` where memory was refused. Page `servicedir`; the order,
-/// `NotLongrun` and what invalid texts give are chosen here.
+/// Reads the directory of the service of this name. The files are looked at in this order: `run`,
+/// `type`, `finish`, `down`, `notification-fd`, `timeout-kill`, `timeout-finish`,
+/// `max-death-tally`, `down-signal`. Of `run`, `finish` and `down` only the presence counts. With
+/// an invalid text in a file after `type`, the configuration is as if the file were absent. The
+/// first fault is answered, and no file after it is looked at: `NoRun` where there is no `run`,
+/// `NotLongrun` where `type` says something else than `longrun`, `Io` where a reading failed,
+/// `NoMemory` where memory was refused. Page `servicedir`; the order, `NotLongrun` and what invalid
+/// texts give are chosen here.
 pub fn read<A: Allocator + Copy, F: Files>(
     alloc: A,
     files: &mut F,
@@ -68,8 +71,8 @@ fn look_for_run<F: Files>(files: &mut F, name: Name) -> Result<(), DirFault>
     }
 }
 
-// Looks at the file `type` (`ServiceFile::Kind`) of the service of this name; `NotLongrun` where it is there and says something else than
-// `longrun`.
+// Looks at the file `type` (`ServiceFile::Kind`) of the service of this name; `NotLongrun` where it
+// is there and says something else than `longrun`.
 fn look_at_type<A: Allocator + Copy, F: Files>(
     alloc: A,
     files: &mut F,
@@ -92,8 +95,9 @@ fn look_at_type<A: Allocator + Copy, F: Files>(
     }
 }
 
-// Reads the configuration of the service of this name, after its `run` and its `type` were looked at. A file that is absent, or whose text is not
-// valid, gives the value of a plain directory, which has nothing but `run`.
+// Reads the configuration of the service of this name, after its `run` and its `type` were looked
+// at. A file that is absent, or whose text is not valid, gives the value of a plain directory,
+// which has nothing but `run`.
 #[tactic(auto, unfolding(crate::specs::Config::config_of))]
 fn read_found<A: Allocator + Copy, F: Files>(
     alloc: A,
@@ -113,7 +117,8 @@ fn read_found<A: Allocator + Copy, F: Files>(
 {
     let finish = has(files, name, ServiceFile::Finish)?;
     let down = has(files, name, ServiceFile::Down)?;
-    // The descriptor on which the daemon says that it is ready, and a note where the file names none that is served.
+    // The descriptor on which the daemon says that it is ready, and a note where the file names
+    // none that is served.
     let readiness = readiness(alloc, files, name)?;
     let timeout_kill = number(alloc, files, name, ServiceFile::TimeoutKill)?;
     let timeout_finish = number(alloc, files, name, ServiceFile::TimeoutFinish)?;
@@ -135,8 +140,8 @@ fn read_found<A: Allocator + Copy, F: Files>(
     })
 }
 
-// The descriptor that notification-fd names, if it is one that is served, and beside it the note for a file that names none. Where the file is
-// absent, both are None.
+// The descriptor that notification-fd names, if it is one that is served, and beside it the note
+// for a file that names none. Where the file is absent, both are None.
 fn readiness<A: Allocator + Copy, F: Files>(
     alloc: A,
     files: &mut F,
@@ -189,7 +194,8 @@ fn number<A: Allocator + Copy, F: Files>(
     }
 }
 
-// The signal by which the service is told to go down, as its file down-signal says; None where the file is absent or its text is not valid.
+// The signal by which the service is told to go down, as its file down-signal says; None where the
+// file is absent or its text is not valid.
 fn signal<A: Allocator + Copy, F: Files>(
     alloc: A,
     files: &mut F,

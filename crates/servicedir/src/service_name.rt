@@ -15,8 +15,8 @@ pub enum Seen {
     Bad,
 }
 
-/// What an entry of this name is. Page `s6-svscan` skips what begins with a dot; which other texts are names
-/// is chosen here.
+/// What an entry of this name is. Page `s6-svscan` skips what begins with a dot; which other texts
+/// are names is chosen here.
 pub fn name_of(text: &str) -> Seen
     ensures { result ≡ seen_of text.now }
 {

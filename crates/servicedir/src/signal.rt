@@ -16,9 +16,9 @@ const SIGNAL_NAMES: [&str; 31] = [
 /// The greatest number of a signal.
 const LAST_SIGNAL: u32 = 64;
 
-/// The signal that the text of a signal file says: a name in capitals, with or without `SIG`, or a number from 1 to 64, with
-/// at most one newline behind it. None for any other text. Page `servicedir`, `down-signal`; that lower case,
-/// 0 and numbers over 64 are invalid is chosen here.
+/// The signal that the text of a signal file says: a name in capitals, with or without `SIG`, or a
+/// number from 1 to 64, with at most one newline behind it. None for any other text. Page
+/// `servicedir`, `down-signal`; that lower case, 0 and numbers over 64 are invalid is chosen here.
 pub fn parse_signal(text: &[u8]) -> Option<u8>
     ensures { result ≡ signal_of text.now }
 {
@@ -29,15 +29,17 @@ pub fn parse_signal(text: &[u8]) -> Option<u8>
     }
 }
 
-/// The number of the signal with this name, in capitals, with or without `SIG`; None where no signal has it. No newline may follow.
+/// The number of the signal with this name, in capitals, with or without `SIG`; None where no
+/// signal has it. No newline may follow.
 pub fn signal_named(word: &[u8]) -> Option<u8>
     ensures { result ≡ signal_of_word word.now }
 {
     number_of_name(without_prefix(word))
 }
 
-/// The name of the signal of this number, without `SIG`, on Linux for x86-64; None for 0 and for every number over 31, which have no name here.
-/// Takes no memory. The table begins with the name of signal 1.
+/// The name of the signal of this number, without `SIG`, on Linux for x86-64; None for 0 and for
+/// every number over 31, which have no name here. Takes no memory. The table begins with the name
+/// of signal 1.
 #[tactic(auto, unfolding(crate::specs::SignalName::signal_names))]
 pub fn signal_name(number: u8) -> Option<&'static str>
     ensures { option_map (λ name. name.now) result ≡ name_of_signal number }
@@ -78,7 +80,8 @@ fn place_in(table: &[&str], name: &[u8]) -> Option<usize>
     table.iter().position(|known| known.as_bytes() == name)
 }
 
-// The signal whose number these digits say, from 1 to 64; None for any other text. There is no signal 0.
+// The signal whose number these digits say, from 1 to 64; None for any other text. There is no
+// signal 0.
 fn signal_numbered(digits: &[u8]) -> Option<u8>
     ensures { result ≡ signal_number (number_up_to 64 digits.now) }
 {

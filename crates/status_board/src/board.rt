@@ -2,7 +2,7 @@
 ghost use Rattle.std.specs.Prelude.{◌≡◌, List, [], ◌∷◌, ◌++◌, OnErr, OnOk};
 ghost use Rattle.status_board.specs.declared.shot.Shot.{Shot as Published};
 
-use crate::change::StandingRows;
+use crate::published_shot::StandingRows;
 use crate::shot::Shot;
 use crate::told::Told;
 use crate::writer::BoardWriter;
@@ -11,13 +11,14 @@ use s6_events::NoMemory;
 use std::alloc::Global;
 use std::sync::Wait;
 
-/// The end of a board that publishes. `BoardWriter` is one; code that keeps a board under a lock is generic over it. Contracts see it as
-/// all shots that were published, oldest first.
+/// The end of a board that publishes. `BoardWriter` is one; code that keeps a board under a lock is
+/// generic over it. Contracts see it as all shots that were published, oldest first.
 pub trait Board<C: Channels>: Drop {
     /// All shots that were published.
     ghost shots: { Self → List Published };
 
-    /// Publishes this shot: readers see it from now on. `NoMemory` where memory is refused: nothing was published.
+    /// Publishes this shot: readers see it from now on. `NoMemory` where memory is refused: nothing
+    /// was published.
     fn publish(&mut self, shot: &Shot) -> Result<(), NoMemory>
         ensures added { OnOk result (shots self.new ≡ shots self.old ++ shot.now ∷ []) }
         ensures same { OnErr result (shots self.new ≡ shots self.old) };
@@ -45,7 +46,8 @@ impl<C: Channels, R: Wait + Drop> Board<C> for BoardWriter<C, R, Global> {
         BoardWriter::publish_rows(self, rows)
     }
 
-    // All shots that were published so far, for a reader to learn: by the writer's own function of this name.
+    // All shots that were published so far, for a reader to learn: by the writer's own function of
+    // this name.
     fn tell(&self) -> Told<C> {
         BoardWriter::tell(self)
     }

@@ -1,16 +1,16 @@
-//! The history of what was published on a board. It exists in proofs alone, but for its length, which takes the bytes of a number.
+//! The history of what was published on a board. For proofs alone, but for a counter of the shots.
 ghost use Rattle.std.specs.Prelude.{◌≡◌, ◌+◌, ◌==◌, ◌<◌, ◌≤◌, ◌^◌, ◌++◌, ◌∷◌, [], length, nat_le, MatchBool, IsTrue, IsFalse};
 ghost use mathlib.Core.List.{IsPrefix};
 ghost use Rattle.status_board.specs.History.{count_of};
 
-use crate::change::StandingRows;
+use crate::published_shot::StandingRows;
 use crate::shot::Shot;
 use channel_names::Channels;
 use logbook::{Gain, Offer, Plain, Play, Rule, Seen, Word};
 use std::alloc::Allocator;
 use std::marker::{Model, PhantomData};
 
-/// The rule of the history, for proofs: its first word, an atomic number, counts the shots.
+/// The rule of the history: its first word, an atomic number, counts the shots.
 pub struct CountedShots;
 
 impl Rule<Shot, u64> for CountedShots {
@@ -31,7 +31,7 @@ impl Rule<Shot, u64> for CountedShots {
     ghost moves = { λ ask before after answer. Unit {0} };
 }
 
-/// For proofs: whoever adds a shot to the history gets nothing in return.
+/// Whoever adds a shot to the history gets nothing in return.
 pub struct NothingGained;
 
 impl Gain<Shot, u64> for NothingGained {
@@ -40,7 +40,7 @@ impl Gain<Shot, u64> for NothingGained {
     ghost after = { λ names about answer. ftrue };
 }
 
-/// For proofs: the step of the word by which a shot is added to the history.
+/// The step of the word by which a shot is added to the history.
 pub struct AddsShot;
 
 impl Play<Shot, u64> for AddsShot {
@@ -61,10 +61,12 @@ impl<A: Allocator> Plain<StandingRows<A>, Shot, u64> for AddsShot {
 /// The word that counts the shots that were published.
 pub type Count = Word<Shot, u64, CountedShots>;
 
-/// A token of what its holder knows of the history, for proofs: the shots that were published up to some moment.
+/// A token of what its holder knows of the history: the shots that were published up to some
+/// moment.
 pub type Log = Seen<Shot, u64, CountedShots>;
 
-/// All that was published up to some moment, oldest first: a beginning of the board's one history. It takes the bytes of a number.
+/// All that was published up to some moment, oldest first: a beginning of the board's one history.
+/// It takes the bytes of a number.
 #[derive(Drop)]
 pub struct Published<C: Channels> {
     count: u64,
@@ -93,7 +95,6 @@ impl<C: Channels> Published<C> {
         Published {
             count: 0,
             log,
-            // Names the board in the type, for proofs. Nothing is stored.
             channels: PhantomData,
         }
     }
@@ -121,14 +122,15 @@ impl<C: Channels> Published<C> {
         }
     }
 
-    /// Becomes the other, if that has no fewer shots, and returns whether it did. Of two beginnings of one history the shorter is a
-    /// beginning of the longer.
+    /// Becomes the other, if that has no fewer shots, and returns whether it did. Of two beginnings
+    /// of one history the shorter is a beginning of the longer.
     pub fn follow(&mut self, other: &Published<C>) -> bool
         ensures whether { result ≡ nat_le (length self.old) (length other.now) }
         ensures yes { IsTrue result → (self.new ≡ other.now) × IsPrefix self.old self.new }
         ensures no { IsFalse result → (self.new ≡ self.old) × IsPrefix other.now self.old }
     {
-        // It exists in proofs alone: what is known of both lies in one history, so that one of them begins the other.
+        // It exists in proofs alone: what is known of both lies in one history, so that one of them
+        // begins the other.
         let mut both = self.log.again();
         both.learn(&other.log);
         if other.count < self.count {
@@ -138,8 +140,9 @@ impl<C: Channels> Published<C> {
         true
     }
 
-    // Adds a shot to the history, and returns whether it did: not where the history has more shots than these, or these are 2^64 - 1. `word` is an
-    // atomic number that counts the shots of the history.
+    // Adds a shot to the history, and returns whether it did: not where the history has more shots
+    // than these, or these are 2^64 - 1. `word` is an atomic number that counts the shots of the
+    // history.
     pub(crate) fn add<A: Allocator>(&mut self, word: &Count, rows: &StandingRows<A>) -> bool
         requires word { word.now ≡ count_of C.board }
         ensures yes { IsTrue result → self.new ≡ self.old ++ rows.now ∷ [] }
@@ -149,8 +152,9 @@ impl<C: Channels> Published<C> {
             return false;
         }
         let count = self.count;
-        // `log`, `offer` and `pen` are tokens for proofs: what is known, the shot that is added, and that no other word is made. `again` copies the
-        // token: the history keeps its own, unless the shot is added.
+        // `log`, `offer` and `pen` are tokens for proofs: what is known, the shot that is added,
+        // and that no other word is made. `again` copies the token: the history keeps its own,
+        // unless the shot is added.
         let mut log = self.log.again();
         let mut offer: Offer<Shot, u64, CountedShots, NothingGained> = log.plain::<
             NothingGained,

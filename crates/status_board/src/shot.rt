@@ -1,18 +1,20 @@
-//! A shot: the status rows of all services, at most `ROW_LIMIT`, and the number of steps that the tree had made when they were taken (`at`).
+//! A shot: the status rows of all services, at most `SERVICE_LIMIT`, and the number of steps that
+//! the tree had made when they were taken (`at`).
 ghost use Rattle.std.specs.Prelude.{◌≡◌, []};
 
 use arrayvec::ArrayVec;
 use supervise_core::Row;
 
 /// The most rows of a shot: as many as a tree has services at most.
-pub const ROW_LIMIT: usize = 256;
+pub const SERVICE_LIMIT: usize = 256;
 
-/// The status rows of all services, at most [`ROW_LIMIT`], in rising serial, and the number of steps that the tree had made when they were
-/// taken. Page `s6-svstat` for the rows; that they are published together, and with this number, is this program's own.
+/// The status rows of all services, at most [`SERVICE_LIMIT`], in rising serial, and the number of
+/// steps that the tree had made when they were taken. Page `s6-svstat` for the rows; that they are
+/// published together, and with this number, is this program's own.
 #[derive(Drop)]
 pub struct Shot {
     pub at: u64,
-    pub rows: ArrayVec<Row, ROW_LIMIT>,
+    pub rows: ArrayVec<Row, SERVICE_LIMIT>,
 }
 
 impl Shot {
@@ -48,7 +50,7 @@ impl Shot {
             .try_extend_from_slice(other.rows.as_slice())
             .is_err()
         {
-            // Both shots have room for `ROW_LIMIT` rows.
+            // Both shots have room for `SERVICE_LIMIT` rows.
             unreachable!()
         }
     }

@@ -1,19 +1,21 @@
-//! What readers are shown: `left_right` keeps two copies of it, one that is read and one that is brought up to date meanwhile.
-//! A change is a shot that was published; a place for one is filled once all memory is there.
+//! What readers are shown: `left_right` keeps two copies of it, one that is read and one that is
+//! brought up to date meanwhile. A change is a shot that was published; a place for one is filled
+//! once all memory is there.
 ghost use Rattle.std.specs.Prelude.{◌≡◌, None, Some};
 
-use crate::change::Change;
+use crate::published_shot::PublishedShot;
 use channel_names::Channels;
 use left_right::Absorb;
 use std::alloc::{AllocError, Allocator};
 use std::marker::Model;
 use std::sync::{Arc, OnceLock};
 
-/// A place for the change that is to be shown next. It is filled once all memory for the change is there.
-pub type Next<C, A> = Arc<OnceLock<Change<C, A>>, A>;
+/// A place for the change that is to be shown next. It is filled once all memory for the change is
+/// there.
+pub type Next<C, A> = Arc<OnceLock<PublishedShot<C, A>>, A>;
 
-/// The place of the change that was published last, if there is one. Both copies show the same memory, so no row is copied for them.
-/// Contracts see which place it is.
+/// The place of the change that was published last, if there is one. Both copies show the same
+/// memory, so no row is copied for them. Contracts see which place it is.
 #[derive(Drop)]
 pub struct Shown<C: Channels, A: Allocator> {
     next: Option<Next<C, A>>,
@@ -37,7 +39,7 @@ impl<C: Channels, A: Allocator> Shown<C, A> {
     }
 
     // The change that was published last; None where there is none.
-    pub(crate) fn change(&self) -> Option<&Change<C, A>> {
+    pub(crate) fn change(&self) -> Option<&PublishedShot<C, A>> {
         self.next.as_ref()?.get()
     }
 
@@ -56,7 +58,8 @@ impl<C: Channels, A: Allocator> Absorb<Next<C, A>> for Shown<C, A> {
 
     ghost applied = { λ s next. tt };
 
-    // Brings one of the two copies up to date. A place that was not filled, since `publish_rows` gave up before that, changes nothing.
+    // Brings one of the two copies up to date. A place that was not filled, since `publish_rows`
+    // gave up before that, changes nothing.
     fn absorb_first(
         &mut self,
         operation: &Next<C, A>,

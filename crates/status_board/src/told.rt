@@ -5,7 +5,8 @@ use crate::history::Published;
 use channel_names::Channels;
 use std::marker::Model;
 
-/// All shots that were published up to the moment at which the writer told this, by `tell`. A reader takes it in by `learn`.
+/// All shots that were published up to the moment at which the writer told this, by `tell`. A
+/// reader takes it in by `learn`.
 #[derive(Drop)]
 pub struct Told<C: Channels> {
     pub(crate) published: Published<C>,

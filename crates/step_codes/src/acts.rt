@@ -24,7 +24,8 @@ use s6_events::{Condition, Exit, Mode, Name, Sid, SubId, WaitId};
 use std::alloc::{AllocError, Global};
 use tree_core::{PlainAct, ScanOrder, Target};
 
-/// Whether an act has a code: a scan, a subscription and a question for a permanent failure have none.
+/// Whether an act has a code: a scan, a subscription and a question for a permanent failure have
+/// none.
 pub fn has_act_code(act: &PlainAct<Global>) -> bool
     ensures { result ≡ has_act_code (act_of act.now) }
 {
@@ -46,7 +47,8 @@ fn push_kind<T: Coded>(code: &mut Vec<u8>, kind: u8, next: &T) -> Result<(), All
     Ok(())
 }
 
-// Adds a byte that tells the kind, and the codes of a service and a generation. The generation is the number of the service's start that is meant.
+// Adds a byte that tells the kind, and the codes of a service and a generation. The generation is
+// the number of the service's start that is meant.
 fn push_life(code: &mut Vec<u8>, kind: u8, sid: Sid, generation: u64) -> Result<(), AllocError>
     ensures added { OnOk result (Adds code.old.items code.new.items
         (λ rest. kind ∷ number_onto sid (number_onto generation rest))) }
@@ -61,8 +63,9 @@ fn push_life(code: &mut Vec<u8>, kind: u8, sid: Sid, generation: u64) -> Result<
     Ok(())
 }
 
-/// Adds the code of a tick or a report. An error where memory is refused. A byte tells the kind of the act, by which it is read again; its fields
-/// stand behind it. The generation says which start of the service is meant.
+/// Adds the code of a tick or a report. An error where memory is refused. A byte tells the kind of
+/// the act, by which it is read again; its fields stand behind it. The generation says which start
+/// of the service is meant.
 #[inline(always)]
 pub fn push_told(code: &mut Vec<u8>, act: ToldAct) -> Result<(), AllocError>
     ensures added { OnOk result
@@ -88,8 +91,8 @@ pub fn push_told(code: &mut Vec<u8>, act: ToldAct) -> Result<(), AllocError>
     Ok(())
 }
 
-/// Adds the code of an act, if it has one. An error where memory is refused. A byte tells the kind of the act, by which `take_act` reads it again;
-/// its fields stand behind it.
+/// Adds the code of an act, if it has one. An error where memory is refused. A byte tells the kind
+/// of the act, by which `take_act` reads it again; its fields stand behind it.
 pub fn push_act(code: &mut Vec<u8>, act: &PlainAct<Global>) -> Result<(), AllocError>
     ensures added { OnOk result (Adds code.old.items code.new.items (act_onto (act_of act.now))) }
     ensures fits { OnOk result
@@ -139,7 +142,8 @@ pub fn push_act(code: &mut Vec<u8>, act: &PlainAct<Global>) -> Result<(), AllocE
     Ok(())
 }
 
-// Takes a service and its generation. The generation is the number of the service's start that is meant.
+// Takes a service and its generation. The generation is the number of the service's start that is
+// meant.
 fn take_life(code: &mut Code<'_>) -> (Sid, u64)
     ensures { (sid generation : ℕ) → (rest : List ℕ) → sid < 2 ^ 64 → generation < 2 ^ 64
         → code.old ≡ number_onto sid (number_onto generation rest)

@@ -70,7 +70,8 @@ pub trait Coded: Sized {
         ensures added { OnOk result (Adds code.old.items code.new.items (onto self.now)) }
         ensures fits { OnOk result (fits self.now) };
 
-    /// Takes the value whose code comes first, and just the bytes of that code. Bytes that are no such code give any value.
+    /// Takes the value whose code comes first, and just the bytes of that code. Bytes that are no
+    /// such code give any value.
     fn take(code: &mut Code<'_>) -> Self
         ensures { (one : Self) (rest : List ℕ) → fits one → code.old ≡ onto one rest
             → (result ≡ one) × (code.new ≡ rest) };

@@ -9,8 +9,8 @@ use std::alloc::{AllocError, Global};
 use std::marker::Model;
 use tree_core::{Act, Effect, Input, PlainAct, PlainInput};
 
-/// A tick, or any report but a notification. A report names a service and its generation first, and then the process number or how the program
-/// ended.
+/// A tick, or any report but a notification. A report names a service and its generation first, and
+/// then the process number or how the program ended.
 #[derive(Clone, Copy)]
 pub enum ToldAct {
     Tick,
@@ -54,7 +54,8 @@ pub trait KeptInput: Drop {
     fn actor(&self) -> Actor
         ensures { result ≡ (input self.now).actor };
 
-    /// Adds the code of its step, if that has one, and returns whether it has. An error where memory is refused.
+    /// Adds the code of its step, if that has one, and returns whether it has. An error where
+    /// memory is refused.
     fn push_step(&self, code: &mut Vec<u8>, effect: &Effect<Global>) -> Result<bool, AllocError>
         ensures added { IfOk result (λ has_code. IsTrue has_code
             → Adds code.old.items code.new.items
@@ -74,7 +75,8 @@ impl KeptInput for PlainInput<Global> {
         self.actor
     }
 
-    // Adds the code of its step, the bytes in which a run keeps it, and returns true; false where the step has none, and is kept as it is.
+    // Adds the code of its step, the bytes in which a run keeps it, and returns true; false where
+    // the step has none, and is kept as it is.
     fn push_step(&self, code: &mut Vec<u8>, effect: &Effect<Global>) -> Result<bool, AllocError> {
         push_step(code, self, effect)
     }
@@ -104,7 +106,8 @@ impl KeptInput for ToldInput {
         self.actor
     }
 
-    // Adds the code of its step, the bytes in which a run keeps it, and returns true; false where the step has none, and is kept as it is.
+    // Adds the code of its step, the bytes in which a run keeps it, and returns true; false where
+    // the step has none, and is kept as it is.
     #[inline(always)]
     fn push_step(&self, code: &mut Vec<u8>, effect: &Effect<Global>) -> Result<bool, AllocError> {
         push_told_step(code, self, effect)

@@ -1,5 +1,6 @@
-//! The codes of marks, and of how programs ended. A mark is one byte. An exit is two: 0 and the exit code, or 1 and the number of the signal that
-//! killed the program. Other bytes, which no record has, give any value.
+//! The codes of marks, and of how programs ended. A mark is one byte. An exit is two: 0 and the
+//! exit code, or 1 and the number of the signal that killed the program. Other bytes, which no
+//! record has, give any value.
 use crate::coded::{Code, Coded};
 use s6_events::{Exit, Mark};
 use std::alloc::AllocError;
@@ -47,7 +48,8 @@ impl Coded for Exit {
 
     ghost fits = { FitsExit };
 
-    // Adds its code: 0 and the exit code, or 1 and the number of the signal that killed the program.
+    // Adds its code: 0 and the exit code, or 1 and the number of the signal that killed the
+    // program.
     fn push(&self, code: &mut Vec<u8>) -> Result<(), AllocError> {
         match self {
             Exit::Code(number) => {

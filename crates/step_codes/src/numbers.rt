@@ -1,5 +1,6 @@
-//! The codes of numbers, truth values and options. Numbers of more than 8 bits: one byte below 251, else 251 or 252 and then 4 or 8 bytes. A truth
-//! value is the byte 0 or 1; an option is 0, or 1 and its value. Bytes that are no such code give any value.
+//! The codes of numbers, truth values and options. Numbers of more than 8 bits: one byte below 251,
+//! else 251 or 252 and then 4 or 8 bytes. A truth value is the byte 0 or 1; an option is 0, or 1
+//! and its value. Bytes that are no such code give any value.
 ghost use Rattle.std.specs.Prelude.{◌≡◌, ◌+◌, ◌<◌, ◌≤◌, ◌^◌, ◌++◌, ◌∷◌, List, ℕ, OnOk, length, vec_len, vec_capacity};
 ghost use Rattle.step_codes.specs.Adding.{Adds};
 ghost use Rattle.step_codes.specs.NumberCodes.{number_onto};
@@ -8,7 +9,8 @@ use crate::coded::{Code, Coded};
 use byteorder::{ByteOrder, LittleEndian};
 use std::alloc::AllocError;
 
-// Adds a byte, and these behind it, for which there is room. Inlined, the copy of so few bytes is one word.
+// Adds a byte, and these behind it, for which there is room. Inlined, the copy of so few bytes is
+// one word.
 #[inline(always)]
 fn put_behind(code: &mut Vec<u8>, first: u8, bytes: &[u8])
     requires { vec_len code.old + (length bytes.now + 1) ≤ vec_capacity code.old }
@@ -23,7 +25,8 @@ fn put_behind(code: &mut Vec<u8>, first: u8, bytes: &[u8])
     }
 }
 
-// Adds a number that is more than one byte, for which there is room: a byte that tells its size, and its bytes.
+// Adds a number that is more than one byte, for which there is room: a byte that tells its size,
+// and its bytes.
 #[inline(always)]
 fn put_wide(code: &mut Vec<u8>, number: u64)
     requires wide { 251 ≤ number }

@@ -1,5 +1,6 @@
-//! The codes of orders: a byte that tells the kind, and the code of each field. The generation is the number of the service's start that the order
-//! concerns. The descriptor is that on which `run` says that it is ready.
+//! The codes of orders: a byte that tells the kind, and the code of each field. The generation is
+//! the number of the service's start that the order concerns. The descriptor is that on which `run`
+//! says that it is ready.
 use crate::coded::{Code, Coded};
 use s6_events::{Name, Order, Sid};
 use std::alloc::AllocError;
@@ -11,7 +12,8 @@ impl Coded for Order {
 
     ghost fits = { FitsOrder };
 
-    // Adds its code: a byte that tells the kind, the serial of the service, the generation, and then what an order of this kind has beside.
+    // Adds its code: a byte that tells the kind, the serial of the service, the generation, and
+    // then what an order of this kind has beside.
     fn push(&self, code: &mut Vec<u8>) -> Result<(), AllocError> {
         match self {
             Order::Run(sid, generation, name, descriptor) => {
@@ -43,7 +45,8 @@ impl Coded for Order {
         }
     }
 
-    // Reads an order by the byte of its kind: 0 starts `run`, 1 starts `finish`, 2 sends `run` a signal, 3 kills `finish`.
+    // Reads an order by the byte of its kind: 0 starts `run`, 1 starts `finish`, 2 sends `run` a
+    // signal, 3 kills `finish`.
     fn take(code: &mut Code<'_>) -> Order {
         let kind = code.take_byte();
         // Each kind has the service and its generation first.

@@ -1,4 +1,5 @@
-//! The codes of replies, and of what they hold: refusals (`Refusal` of tree_core says what each means) and rows.
+//! The codes of replies, and of what they hold: refusals (`Refusal` of tree_core says what each
+//! means) and rows.
 ghost use Rattle.std.specs.Prelude.{◌≡◌, ℕ, List, IsTrue, OnOk};
 ghost use Rattle.std.specs.declared.alloc.Global.{Global};
 ghost use Rattle.tree_core.specs.declared.reply.Reply.{Reply};
@@ -19,10 +20,12 @@ impl Coded for Refusal {
 
     ghost fits = { λ refusal. ⊤ };
 
-    // One byte tells the reason. NoService: no such service. Stale: a report of another run than the present one, or one that is not awaited.
-    // Reserved: a message to the event directory of a service. TooMany: a limit is reached. NoSuch: no such free directory, subscription or waiter.
-    // Closing: a terminate was done. Repeated, Empty: a name twice, no name. Exists: the free directory is there already. Ended: the supervisor has
-    // ended. Spent: the tree has taken its last step.
+    // One byte tells the reason. NoService: no such service. Stale: a report of another run than
+    // the present one, or one that is not awaited. Reserved: a message to the event directory of a
+    // service. TooMany: a limit is reached. NoSuch: no such free directory, subscription or waiter.
+    // Closing: a terminate was done. Repeated, Empty: a name twice, no name. Exists: the free
+    // directory is there already. Ended: the supervisor has ended. Spent: the tree has taken its
+    // last step.
     fn push(&self, code: &mut Vec<u8>) -> Result<(), AllocError> {
         code.push(match self {
             Refusal::NoService => 1,
@@ -40,10 +43,12 @@ impl Coded for Refusal {
         Ok(())
     }
 
-    // The reason that the byte tells. NoService: no such service. Stale: a report of another run than the present one, or one that is not awaited.
-    // Reserved: a message to the event directory of a service. TooMany: a limit is reached. NoSuch: no such free directory, subscription or waiter.
-    // Closing: a terminate was done. Repeated, Empty: a name twice, no name. Exists: the free directory is there already. Ended: the supervisor has
-    // ended. Spent: the tree has taken its last step.
+    // The reason that the byte tells. NoService: no such service. Stale: a report of another run
+    // than the present one, or one that is not awaited. Reserved: a message to the event directory
+    // of a service. TooMany: a limit is reached. NoSuch: no such free directory, subscription or
+    // waiter. Closing: a terminate was done. Repeated, Empty: a name twice, no name. Exists: the
+    // free directory is there already. Ended: the supervisor has ended. Spent: the tree has taken
+    // its last step.
     fn take(code: &mut Code<'_>) -> Refusal {
         match code.take_byte() {
             1 => Refusal::NoService,

@@ -1,4 +1,5 @@
-//! The codes of what users ask with: letters, orders for all services, conditions, and whose event directory is meant.
+//! The codes of what users ask with: letters, orders for all services, conditions, and whose event
+//! directory is meant.
 use crate::coded::{Code, Coded};
 use control_letters::ControlLetter;
 use s6_events::{Condition, Mode, Name};
@@ -95,7 +96,8 @@ impl Coded for Mode {
 
     ghost fits = { λ mode. ⊤ };
 
-    // Adds its code: 0 where the condition has to hold of all of a waiter's services, 1 where of one.
+    // Adds its code: 0 where the condition has to hold of all of a waiter's services, 1 where of
+    // one.
     fn push(&self, code: &mut Vec<u8>) -> Result<(), AllocError> {
         code.push(match self {
             Mode::All => 0,
@@ -135,7 +137,8 @@ impl Coded for Target {
         }
     }
 
-    // Reads which event directory is meant: 0 stands before the name of a service, 1 before that of a free directory.
+    // Reads which event directory is meant: 0 stands before the name of a service, 1 before that of
+    // a free directory.
     fn take(code: &mut Code<'_>) -> Target {
         if code.take_byte() == 0 {
             Target::Service(Name::take(code))

@@ -54,8 +54,8 @@ fn push_head(code: &mut Vec<u8>, actor: Actor, at: At) -> Result<(), AllocError>
     Ok(())
 }
 
-/// Adds the code of a step, if it has one, and returns whether it has: it has none where its act or its reply has none, or where a
-/// subscription matched. An error where memory is refused.
+/// Adds the code of a step, if it has one, and returns whether it has: it has none where its act or
+/// its reply has none, or where a subscription matched. An error where memory is refused.
 pub fn push_step(
     code: &mut Vec<u8>,
     input: &PlainInput<Global>,
@@ -76,7 +76,8 @@ pub fn push_step(
     Ok(true)
 }
 
-/// Adds the code of the step of a tick or a report, as `push_step` does, and returns whether it has one. An error where memory is refused.
+/// Adds the code of the step of a tick or a report, as `push_step` does, and returns whether it has
+/// one. An error where memory is refused.
 #[inline(always)]
 pub fn push_told_step(
     code: &mut Vec<u8>,

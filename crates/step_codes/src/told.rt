@@ -35,8 +35,8 @@ impl Coded for Release {
 
     ghost fits = { FitsRelease };
 
-    // The waiter, and a byte for its verdict: its condition held; it was given up, since a service failed for good or since supervisors ended; or
-    // its deadline came.
+    // The waiter, and a byte for its verdict: its condition held; it was given up, since a service
+    // failed for good or since supervisors ended; or its deadline came.
     fn push(&self, code: &mut Vec<u8>) -> Result<(), AllocError> {
         self.waiter.0.push(code)?;
         code.push(match self.verdict {
@@ -48,7 +48,8 @@ impl Coded for Release {
         Ok(())
     }
 
-    // Reads the waiter, and the byte of its verdict: its condition held; a service failed for good; supervisors have ended; or its deadline came.
+    // Reads the waiter, and the byte of its verdict: its condition held; a service failed for good;
+    // supervisors have ended; or its deadline came.
     fn take(code: &mut Code<'_>) -> Release {
         let waiter = WaitId(u64::take(code));
         let verdict = match code.take_byte() {

@@ -6,11 +6,12 @@ use control_letters::Letters;
 use s6_events::{At, Exit, Report};
 use servicedir::Config;
 
-/// What may happen to a service: a report of the outside, letters of a user, its timer, or a look at its directory.
+/// What may happen to a service: a report of the outside, letters of a user, its timer, or a look
+/// at its directory.
 #[derive(Clone, Debug, PartialEq, Eq, Drop)]
 pub enum Change {
-    /// A report of its `run` or its `finish`. The phase and the generation in the report tell whether it is stale, never the serial: a
-    /// report is handed to the service that it names.
+    /// A report of its `run` or its `finish`. The phase and the generation in the report tell
+    /// whether it is stale, never the serial: a report is handed to the service that it names.
     Report(Report),
     /// A user sent these letters.
     Control(Letters),
@@ -23,8 +24,9 @@ pub enum Change {
 }
 
 impl Change {
-    /// The death that this change, at this moment, adds to the tally (the last deaths) of a service: that of a death report, unless it was refused
-    /// as `stale` (of another run than the present one). None for any other change.
+    /// The death that this change, at this moment, adds to the tally (the last deaths) of a
+    /// service: that of a death report, unless it was refused as `stale` (of another run than the
+    /// present one). None for any other change.
     pub fn counted_death(&self, stale: bool, now: At) -> Option<(At, Exit)>
         ensures { result ≡ death_by self.now stale now }
     {

@@ -1,4 +1,5 @@
-//! The state of a service and its supervisor, without its tally (the last deaths), and the one call that takes any change of it.
+//! The state of a service and its supervisor, without its tally (the last deaths), and the one call
+//! that takes any change of it.
 ghost use Rattle.std.specs.Prelude.{◌≡◌, ◌+◌, ◌<◌, ◌≤◌, ◌^◌, length};
 ghost use Rattle.supervise_core.specs.ChartState.{new_service};
 ghost use Rattle.supervise_core.specs.Moves.{begin_move};
@@ -11,23 +12,27 @@ use super::phase::Phase;
 use s6_events::{At, Exit, Name, Report, Sid};
 use servicedir::Config;
 
-/// The state of a service and its supervisor, without its tally of deaths. (The chart is the table of what each change does in each
-/// phase.) It is copyable and takes each change as its service does, so that the marks and orders of a change are known before it is
-/// made. No change takes memory.
+/// The state of a service and its supervisor, without its tally of deaths. (The chart is the table
+/// of what each change does in each phase.) It is copyable and takes each change as its service
+/// does, so that the marks and orders of a change are known before it is made. No change takes
+/// memory.
 #[derive(Clone, Copy, Debug, PartialEq, Eq)]
 pub struct ChartState {
     pub sid: Sid,
     pub name: Name,
-    /// What its directory said when it was last read; how many deaths are kept stays as it first said.
+    /// What its directory said when it was last read; how many deaths are kept stays as it first
+    /// said.
     pub config: Config,
     pub phase: Phase,
     /// It is started again when it is down.
     pub wanted_up: bool,
     /// Its supervisor ends as soon as it is down.
     pub exit_requested: bool,
-    /// It was told to go down while its start was under way; the down signal follows when it is spawned.
+    /// It was told to go down while its start was under way; the down signal follows when it is
+    /// spawned.
     pub down_pending: bool,
-    /// Since when the present run, or in Finish the dead one, has been ready; None where it hasn't said so.
+    /// Since when the present run, or in Finish the dead one, has been ready; None where it hasn't
+    /// said so.
     pub ready_since: Option<At>,
     /// It was told to stop by SIGSTOP.
     pub paused: bool,
@@ -35,7 +40,8 @@ pub struct ChartState {
     pub generation: u64,
     /// The process number of the last run that was spawned.
     pub pid: u32,
-    /// The descriptor on which the last run says that it is ready, as it was configured when that run was ordered.
+    /// The descriptor on which the last run says that it is ready, as it was configured when that
+    /// run was ordered.
     pub notification_fd: Option<u8>,
     /// The moment of its last death.
     pub died_at: At,
@@ -43,8 +49,8 @@ pub struct ChartState {
     pub last_exit: Option<Exit>,
     /// Its directory is in the last listing.
     pub active: bool,
-    /// The number of the moment, in milliseconds, at which its timer goes off. What it does follows from the phase: in Down a
-    /// start, in Up and Finish a SIGKILL, in Gone a new supervisor.
+    /// The number of the moment, in milliseconds, at which its timer goes off. What it does follows
+    /// from the phase: in Down a start, in Up and Finish a SIGKILL, in Gone a new supervisor.
     pub timer: Option<u64>,
 }
 
@@ -57,7 +63,8 @@ impl Default for ChartState {
 }
 
 impl ChartState {
-    // An active service whose supervisor has not started yet: no run was ordered, and none has died. Its directory is listed (`active`).
+    // An active service whose supervisor has not started yet: no run was ordered, and none has
+    // died. Its directory is listed (`active`).
     fn new(sid: Sid, name: Name, config: Config) -> ChartState
         ensures { result ≡ new_service sid name config }
     {
@@ -72,7 +79,6 @@ impl ChartState {
             down_pending: false,
             ready_since: None,
             paused: false,
-            // How many runs were ordered, and what is known of the last one: none.
             generation: 0,
             pid: 0,
             notification_fd: None,
@@ -83,8 +89,9 @@ impl ChartState {
         }
     }
 
-    /// A new active service, whose supervisor starts: mark `s`, and the first run is ordered unless the directory has `down`. Both are put
-    /// into `out`, in place of what that held. Page `s6-supervise`, "Detailed operation".
+    /// A new active service, whose supervisor starts: mark `s`, and the first run is ordered unless
+    /// the directory has `down`. Both are put into `out`, in place of what that held. Page
+    /// `s6-supervise`, "Detailed operation".
     pub fn begin_into(sid: Sid, name: Name, config: Config, out: &mut Out) -> ChartState
         ensures gives { MatchesMove (begin_move (new_service sid name config)) result out.new }
         ensures few { length out.new.orders.items ≤ 1 }
@@ -95,7 +102,8 @@ impl ChartState {
         chart
     }
 
-    /// Takes any of the changes (a report, letters, its timer, a look at its directory), and returns the marks and orders that it gives.
+    /// Takes any of the changes (a report, letters, its timer, a look at its directory), and
+    /// returns the marks and orders that it gives.
     pub fn change(&mut self, change: &Change, now: At) -> Out
         requires { self.old.generation + 1 < 2 ^ 64 }
         ensures gives { MatchesMove (changed_by change.now now self.old) self.new result }
@@ -107,9 +115,10 @@ impl ChartState {
         out
     }
 
-    /// Takes any of the changes: a report of a run of this generation (its number), letters of a user, its timer (`Fire`), or what a look at its
-    /// directory found. The marks and orders that this gives are added to what is in `out`. For letters `out` must hold no order, even where they
-    /// are few: there has to be room for the orders of 63 letters.
+    /// Takes any of the changes: a report of a run of this generation (its number), letters of a
+    /// user, its timer (`Fire`), or what a look at its directory found. The marks and orders that
+    /// this gives are added to what is in `out`. For letters `out` must hold no order, even where
+    /// they are few: there has to be room for the orders of 63 letters.
     pub fn change_onto(&mut self, change: &Change, now: At, out: &mut Out)
         requires marks { length out.old.events.items + most_marks change.now ≤ 4 }
         requires room { length out.old.orders.items + most_orders change.now ≤ 126 }

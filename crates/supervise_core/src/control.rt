@@ -13,8 +13,9 @@ use s6_events::{At, Order};
 
 // The letters of a user.
 impl ChartState {
-    /// A user sent these letters; they are done in the order written, all at one moment. Once the supervisor has ended no letter
-    /// does anything. Page `s6-svc`; that they are done in the order written is chosen here.
+    /// A user sent these letters; they are done in the order written, all at one moment. Once the
+    /// supervisor has ended no letter does anything. Page `s6-svc`; that they are done in the order
+    /// written is chosen here.
     pub fn control(&mut self, letters: &Letters, now: At) -> Out
         requires { self.old.generation + 1 < 2 ^ 64 }
         ensures gives { MatchesMove (control_move letters.now.items now self.old) self.new result }
@@ -25,8 +26,8 @@ impl ChartState {
         out
     }
 
-    /// A user sent these letters: they are done in the order written. The mark that they give, at most one, and the orders, at most two for each
-    /// letter, are added to what is in `out`.
+    /// A user sent these letters: they are done in the order written. The mark that they give, at
+    /// most one, and the orders, at most two for each letter, are added to what is in `out`.
     pub fn control_onto(&mut self, letters: &Letters, now: At, out: &mut Out)
         requires marks { length out.old.events.items < 4 }
         requires room { length out.old.orders.items + 2 * length letters.now.items ≤ 126 }
@@ -40,7 +41,8 @@ impl ChartState {
         self.take_letters(letters.as_slice(), now, out);
     }
 
-    // Takes these letters, one after the other; the marks and orders that they give are added to `out`.
+    // Takes these letters, one after the other; the marks and orders that they give are added to
+    // `out`.
     pub(crate) fn take_letters(&mut self, letters: &[ControlLetter], now: At, out: &mut Out)
         requires marks { length out.old.events.items < 4 }
         requires room { length out.old.orders.items + 2 * length letters.now ≤ 126 }
@@ -56,8 +58,9 @@ impl ChartState {
         }
     }
 
-    // Does what page `s6-svc` says of the letter, in the present phase of the service: `u`, `d`, `O`, `r`, `x`, or a letter that stands for a
-    // signal to `run`. The marks and orders that it gives are added to `out`.
+    // Does what page `s6-svc` says of the letter, in the present phase of the service: `u`, `d`,
+    // `O`, `r`, `x`, or a letter that stands for a signal to `run`. The marks and orders that it
+    // gives are added to `out`.
     fn take_letter(&mut self, letter: ControlLetter, now: At, out: &mut Out)
         requires marks { length out.old.events.items + marks_left self.old.phase ≤ 4 }
         requires room { length out.old.orders.items + 2 ≤ 126 }
@@ -86,13 +89,15 @@ impl ChartState {
                 }
             }
             ControlLetter::Restart => {
-                // Whether it is wanted up stays as it was, so that it is started again if it was to be.
+                // Whether it is wanted up stays as it was, so that it is started again if it was to
+                // be.
                 if self.phase == Phase::Up {
                     self.send_down_signal(now, out);
                 }
             }
             ControlLetter::Exit => {
-                // Its supervisor ends as soon as the service is down: at once, where it is down already.
+                // Its supervisor ends as soon as the service is down: at once, where it is down
+                // already.
                 self.exit_requested = true;
                 if self.phase == Phase::Down {
                     self.end_supervisor(now, out);
@@ -102,7 +107,8 @@ impl ChartState {
         }
     }
 
-    // `u`: it is wanted up, and started where it is down. Once its supervisor was told to end, `u` does nothing.
+    // `u`: it is wanted up, and started where it is down. Once its supervisor was told to end, `u`
+    // does nothing.
     fn be_told_up(&mut self, out: &mut Out)
         requires room { length out.old.orders.items < 126 }
         requires next { self.old.generation + runs_left self.old.phase < 2 ^ 64 }
@@ -117,8 +123,9 @@ impl ChartState {
         }
     }
 
-    // `d`: it is no longer wanted up. It gets its down signal where it is up; where its start is under way, that is noted (`down_pending`), and it
-    // gets the signal once it is spawned; where it is down, a start that the timer would bring is given up.
+    // `d`: it is no longer wanted up. It gets its down signal where it is up; where its start is
+    // under way, that is noted (`down_pending`), and it gets the signal once it is spawned; where
+    // it is down, a start that the timer would bring is given up.
     fn be_told_down(&mut self, now: At, out: &mut Out)
         requires { length out.old.orders.items < 125 }
         ensures { AppendsMove (down_move self.old.phase now (as_unwanted self.old)) self.new out.old
@@ -133,8 +140,8 @@ impl ChartState {
         }
     }
 
-    // Orders the signal that the letter stands for, where `run` is there; else it does nothing. The order names the run by its number
-    // (`generation`).
+    // Orders the signal that the letter stands for, where `run` is there; else it does nothing. The
+    // order names the run by its number (`generation`).
     fn pass_signal(&mut self, letter: ControlLetter, out: &mut Out)
         requires { length out.old.orders.items < 126 }
         ensures gives { AppendsMove

@@ -5,8 +5,8 @@ use s6_events::{At, Exit};
 use std::alloc::Allocator;
 use std::marker::Model;
 
-/// A service as plain data: its state, what it stores of its marks, its last deaths, and how many of these it keeps at most. A clause
-/// sees it as the service whose image it is.
+/// A service as plain data: its state, what it stores of its marks, its last deaths, and how many
+/// of these it keeps at most. A clause sees it as the service whose image it is.
 #[derive(Drop)]
 pub struct ServiceImage<A: Allocator> {
     pub chart: ChartState,

@@ -1,4 +1,5 @@
-//! One service under its supervisor: what each report, each timer and each look at its directory makes of its state.
+//! One service under its supervisor: what each report, each timer and each look at its directory
+//! makes of its state.
 #![tactic(auto)]
 
 mod activity;

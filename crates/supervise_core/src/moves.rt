@@ -1,4 +1,5 @@
-//! The moves of which reports, letters and timers are made: a start, a down signal, `finish`, and what comes after it.
+//! The moves of which reports, letters and timers are made: a start, a down signal, `finish`, and
+//! what comes after it.
 ghost use Rattle.std.specs.Prelude.{◌≡◌, ◌+◌, ◌<◌, ◌≤◌, ◌^◌, ◌++◌, length};
 ghost use Rattle.supervise_core.specs.Moves.{run_move, begin_move, down_signal_move, kill_timer, end_move, settle_move, finish_move};
 ghost use Rattle.supervise_core.specs.MatchesMove.{AppendsMove};
@@ -15,9 +16,11 @@ const CONTINUE: u8 = 18;
 /// The milliseconds after which an ended supervisor whose directory is active starts again.
 pub const SUPERVISOR_PAUSE: u32 = 1000;
 
-// The moves that reports and timers are made of. Each adds its marks and orders to those of its change.
+// The moves that reports and timers are made of. Each adds its marks and orders to those of its
+// change.
 impl ChartState {
-    // Orders the next start of `run`, which gets the next number (`generation`); reports on it will name that number.
+    // Orders the next start of `run`, which gets the next number (`generation`); reports on it will
+    // name that number.
     pub(crate) fn start_run(&mut self, out: &mut Out)
         requires room { length out.old.orders.items < 126 }
         requires next { self.old.generation + 1 < 2 ^ 64 }
@@ -34,8 +37,8 @@ impl ChartState {
         out.orders.push(order);
     }
 
-    // The supervisor starts: mark `s`. `run` is wanted up and ordered, unless the directory has `down`. Nothing stays of what an earlier supervisor
-    // was told.
+    // The supervisor starts: mark `s`. `run` is wanted up and ordered, unless the directory has
+    // `down`. Nothing stays of what an earlier supervisor was told.
     pub(crate) fn begin_supervisor(&mut self, out: &mut Out)
         requires marks { length out.old.events.items < 4 }
         requires room { length out.old.orders.items < 126 }
@@ -55,7 +58,8 @@ impl ChartState {
         }
     }
 
-    // `run` gets its down signal, and SIGCONT so that a stopped one gets it too. Where it has not died after `timeout-kill`, the timer kills it.
+    // `run` gets its down signal, and SIGCONT so that a stopped one gets it too. Where it has not
+    // died after `timeout-kill`, the timer kills it.
     pub(crate) fn send_down_signal(&mut self, now: At, out: &mut Out)
         requires { length out.old.orders.items < 125 }
         ensures { AppendsMove (down_signal_move now self.old) self.new out.old out.new }
@@ -68,8 +72,8 @@ impl ChartState {
         self.timer = self.kill_timer(now);
     }
 
-    // The moment at which the run that gets a down signal is to be killed: the one that an earlier down signal set, else `timeout_kill`
-    // milliseconds from now; None where that is 0.
+    // The moment at which the run that gets a down signal is to be killed: the one that an earlier
+    // down signal set, else `timeout_kill` milliseconds from now; None where that is 0.
     fn kill_timer(&self, now: At) -> Option<u64>
         ensures { result ≡ kill_timer now self.now.config.timeout_kill self.now.timer }
     {
@@ -80,8 +84,8 @@ impl ChartState {
         }
     }
 
-    // Orders `finish` for a run that ended with this exit. Where it has not ended after `timeout_finish` milliseconds, the timer kills it; 0 is no
-    // limit.
+    // Orders `finish` for a run that ended with this exit. Where it has not ended after
+    // `timeout_finish` milliseconds, the timer kills it; 0 is no limit.
     pub(crate) fn start_finish(&mut self, exit: Exit, now: At, out: &mut Out)
         requires { length out.old.orders.items < 126 }
         ensures { AppendsMove (finish_move exit now self.old) self.new out.old out.new }
@@ -97,7 +101,8 @@ impl ChartState {
         out.orders.push(Order::Finish(self.sid, self.generation, self.name, code, signal));
     }
 
-    // The supervisor ends: mark `x`. Where the directory is listed, the timer is set to start a new one.
+    // The supervisor ends: mark `x`. Where the directory is listed, the timer is set to start a new
+    // one.
     pub(crate) fn end_supervisor(&mut self, now: At, out: &mut Out)
         requires { length out.old.events.items < 4 }
         ensures { AppendsMove (end_move now self.old) self.new out.old out.new }
@@ -111,15 +116,16 @@ impl ChartState {
         };
     }
 
-    // `finish` is done, or there is none: the supervisor ends, if it was told to; else the service is started, now or by the timer, if it
-    // is wanted up; else it stays down.
+    // `finish` is done, or there is none: the supervisor ends, if it was told to; else the service
+    // is started, now or by the timer, if it is wanted up; else it stays down.
     pub(crate) fn settle(&mut self, now: At, out: &mut Out)
         requires marks { length out.old.events.items < 4 }
         requires room { length out.old.orders.items < 126 }
         requires next { self.old.generation + 1 < 2 ^ 64 }
         ensures { AppendsMove (settle_move now self.old) self.new out.old out.new }
     {
-        // The earliest moment of the next start. It depends on how long the dead run was ready, which is forgotten below.
+        // The earliest moment of the next start. It depends on how long the dead run was ready,
+        // which is forgotten below.
         let due = restart_due(self.ready_since, self.died_at, now);
         self.phase = Phase::Down;
         self.timer = None;

@@ -6,8 +6,8 @@ use super::chart_state::ChartState;
 use servicedir::Config;
 
 impl ChartState {
-    /// Takes the configuration that was now read of its directory. How many deaths are kept stays as it was when the service was
-    /// added. Page `servicedir`.
+    /// Takes the configuration that was now read of its directory. How many deaths are kept stays
+    /// as it was when the service was added. Page `servicedir`.
     pub fn set_config(&mut self, config: Config)
         ensures { self.new ≡ with_config config self.old }
     {

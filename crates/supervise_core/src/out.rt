@@ -4,8 +4,8 @@ ghost use Rattle.std.specs.Prelude.{◌≡◌, ◌<◌, ◌∷◌, ◌++◌, [],
 use arrayvec::ArrayVec;
 use s6_events::{Mark, Order};
 
-/// What one change of a service gives: its marks and its orders, each in the order made, and whether it was a report that was
-/// refused as stale. A stale report changes nothing.
+/// What one change of a service gives: its marks and its orders, each in the order made, and
+/// whether it was a report that was refused as stale. A stale report changes nothing.
 #[derive(Drop)]
 pub struct Out {
     pub events: ArrayVec<Mark, 4>,

@@ -1,5 +1,5 @@
-//! The reports: what each does in the phase that it belongs to. In any other phase, or of another run than the present one, it is stale: it is
-//! refused and changes nothing.
+//! The reports: what each does in the phase that it belongs to. In any other phase, or of another
+//! run than the present one, it is stale: it is refused and changes nothing.
 ghost use Rattle.std.specs.Prelude.{◌≡◌, ◌+◌, ◌<◌, ◌≤◌, ◌^◌, ◌++◌, length};
 ghost use Rattle.supervise_core.specs.Reports.{started_move, start_failed_move, notify_move, death_move, finish_ended_move, finish_done_move, failed_spawn_move, is_awaiting, is_running, is_in_finish, says_ready};
 ghost use Rattle.finish_core.specs.ExitVerdict.{verdict_of};
@@ -14,7 +14,8 @@ use s6_events::{At, Exit, Mark};
 /// The milliseconds after which a spawn of `run` that failed is tried again.
 const SPAWN_PAUSE: u32 = 60000;
 
-// The reports of the outside. A report of another generation, or in a phase to which it does not belong, is stale.
+// The reports of the outside. A report of another generation, or in a phase to which it does not
+// belong, is stale.
 impl ChartState {
     // Whether the run of this generation was ordered, and nothing is known of it yet.
     fn is_awaiting(&self, generation: u64) -> bool
@@ -37,15 +38,16 @@ impl ChartState {
         self.phase == Phase::Finish && self.generation == generation
     }
 
-    // Whether these bytes, which the run wrote to its notification descriptor, say for the first time that it is ready: by a newline.
+    // Whether these bytes, which the run wrote to its notification descriptor, say for the first
+    // time that it is ready: by a newline.
     fn says_ready(&self, bytes: &[u8]) -> bool
         ensures { result ≡ says_ready bytes.now self.now }
     {
         self.notification_fd.is_some() && self.ready_since.is_none() && bytes.contains(&b'\n')
     }
 
-    /// `run` was spawned: mark `u`. Where it was told to go down meanwhile, the down signal follows. Stale unless its start was
-    /// under way. Page `s6-supervise`, "Events".
+    /// `run` was spawned: mark `u`. Where it was told to go down meanwhile, the down signal
+    /// follows. Stale unless its start was under way. Page `s6-supervise`, "Events".
     pub fn started(&mut self, generation: u64, pid: u32, now: At) -> Out
         ensures gives { MatchesMove (started_move generation pid now self.old) self.new result }
         ensures sid { self.new.sid ≡ self.old.sid }
@@ -56,9 +58,10 @@ impl ChartState {
         out
     }
 
-    /// `run` of this number (`generation`) was spawned: mark `u`. Where it was told to go down meanwhile (`down_pending`), the down signal follows.
-    /// The report is stale, and changes nothing, unless the start of this run was under way. The mark and the orders, at most two, are added to
-    /// what is in `out`.
+    /// `run` of this number (`generation`) was spawned: mark `u`. Where it was told to go down
+    /// meanwhile (`down_pending`), the down signal follows. The report is stale, and changes
+    /// nothing, unless the start of this run was under way. The mark and the orders, at most two,
+    /// are added to what is in `out`.
     pub fn started_onto(&mut self, generation: u64, pid: u32, now: At, out: &mut Out)
         requires marks { length out.old.events.items < 4 }
         requires room { length out.old.orders.items + 2 ≤ 126 }
@@ -83,10 +86,11 @@ impl ChartState {
         }
     }
 
-    /// A spawn failed. That of `run`: the supervisor ends, if it was told to; else `run` is tried again after 60000 ms, if it is
-    /// wanted up. That of `finish`: `finish` counts as done, mark `D` and what comes next. Stale unless the start of `run` was under
-    /// way, or `finish` was there. Page `s6-supervise`, "Detailed operation"; that a `finish` that can't be spawned counts as none is
-    /// chosen here.
+    /// A spawn failed. That of `run`: the supervisor ends, if it was told to; else `run` is tried
+    /// again after 60000 ms, if it is wanted up. That of `finish`: `finish` counts as done, mark
+    /// `D` and what comes next. Stale unless the start of `run` was under way, or `finish` was
+    /// there. Page `s6-supervise`, "Detailed operation"; that a `finish` that can't be spawned
+    /// counts as none is chosen here.
     pub fn start_failed(&mut self, generation: u64, now: At) -> Out
         requires { self.old.generation + 1 < 2 ^ 64 }
         ensures gives { MatchesMove (start_failed_move generation now self.old) self.new result }
@@ -98,9 +102,10 @@ impl ChartState {
         out
     }
 
-    /// `run` or `finish` of this number (`generation`) could not be spawned. `run` is tried again later, or its supervisor ends (`miss_spawn`);
-    /// `finish` counts as done: mark `D`, and what comes next (`settle`). The report is stale, and changes nothing, where neither was awaited. The
-    /// marks, at most two, and the order are added to what is in `out`.
+    /// `run` or `finish` of this number (`generation`) could not be spawned. `run` is tried again
+    /// later, or its supervisor ends (`miss_spawn`); `finish` counts as done: mark `D`, and what
+    /// comes next (`settle`). The report is stale, and changes nothing, where neither was awaited.
+    /// The marks, at most two, and the order are added to what is in `out`.
     pub fn start_failed_onto(&mut self, generation: u64, now: At, out: &mut Out)
         requires marks { length out.old.events.items + 2 ≤ 4 }
         requires room { length out.old.orders.items < 126 }
@@ -120,7 +125,8 @@ impl ChartState {
         }
     }
 
-    // The run could not be spawned: the supervisor ends, if it was told to; else `run` is tried again after 60000 ms, if it is wanted up.
+    // The run could not be spawned: the supervisor ends, if it was told to; else `run` is tried
+    // again after 60000 ms, if it is wanted up.
     fn miss_spawn(&mut self, now: At, out: &mut Out)
         requires { length out.old.events.items < 4 }
         ensures gives { AppendsMove (failed_spawn_move now self.old) self.new out.old out.new }
@@ -136,8 +142,8 @@ impl ChartState {
         }
     }
 
-    /// `run` wrote these bytes to its notification descriptor: mark `U` at the first newline of this run, and else nothing.
-    /// Stale unless it was up. Page `notifywhenup`.
+    /// `run` wrote these bytes to its notification descriptor: mark `U` at the first newline of
+    /// this run, and else nothing. Stale unless it was up. Page `notifywhenup`.
     pub fn notify(&mut self, generation: u64, bytes: &[u8], now: At) -> Out
         ensures gives { MatchesMove
             (notify_move generation bytes.now now self.old) self.new result }
@@ -149,8 +155,9 @@ impl ChartState {
         out
     }
 
-    /// `run` of this number (`generation`) wrote these bytes to its notification descriptor: mark `U` at its first newline, and else nothing. The
-    /// report is stale, and changes nothing, unless this run was up. The mark is added to what is in `out`.
+    /// `run` of this number (`generation`) wrote these bytes to its notification descriptor: mark
+    /// `U` at its first newline, and else nothing. The report is stale, and changes nothing, unless
+    /// this run was up. The mark is added to what is in `out`.
     pub fn notify_onto(&mut self, generation: u64, bytes: &[u8], now: At, out: &mut Out)
         requires { length out.old.events.items < 4 }
         ensures gives { AppendsMove
@@ -168,9 +175,11 @@ impl ChartState {
         }
     }
 
-    /// `run` died: mark `d`, and `finish` is ordered where there is one. Else mark `D` and what comes next: the supervisor ends, or the
-    /// service rests, or it is started, at once after more than 1000 ms of readiness, else 1000 ms after the death. Stale unless it was
-    /// up. Pages `s6-supervise`, "Detailed operation", and `servicedir`, "finish"; the length of the pause is chosen here.
+    /// `run` died: mark `d`, and `finish` is ordered where there is one. Else mark `D` and what
+    /// comes next: the supervisor ends, or the service rests, or it is started, at once after more
+    /// than 1000 ms of readiness, else 1000 ms after the death. Stale unless it was up. Pages
+    /// `s6-supervise`, "Detailed operation", and `servicedir`, "finish"; the length of the pause is
+    /// chosen here.
     pub fn death(&mut self, generation: u64, exit: Exit, now: At) -> Out
         requires { self.old.generation + 1 < 2 ^ 64 }
         ensures gives { MatchesMove (death_move generation exit now self.old) self.new result }
@@ -182,8 +191,9 @@ impl ChartState {
         out
     }
 
-    /// `run` of this number (`generation`) died: mark `d`. Then `finish` is ordered where there is one; else mark `D`, and what comes next
-    /// (`settle`): the supervisor ends, or the service rests, or it is started again. The report is stale, and changes nothing, unless this run was
+    /// `run` of this number (`generation`) died: mark `d`. Then `finish` is ordered where there is
+    /// one; else mark `D`, and what comes next (`settle`): the supervisor ends, or the service
+    /// rests, or it is started again. The report is stale, and changes nothing, unless this run was
     /// up. The marks, at most three, and the order are added to what is in `out`.
     pub fn death_onto(&mut self, generation: u64, exit: Exit, now: At, out: &mut Out)
         requires marks { length out.old.events.items + 3 ≤ 4 }
@@ -213,9 +223,10 @@ impl ChartState {
         }
     }
 
-    /// `finish` ended: mark `D` and what comes next, as after a death without `finish`. With the exit code 125 the service has
-    /// failed for good: mark `O` comes before the `D`, and it is no longer wanted up. Stale unless `finish` was there. Pages
-    /// `servicedir`, "finish", and `s6-supervise`, "Events".
+    /// `finish` ended: mark `D` and what comes next, as after a death without `finish`. With the
+    /// exit code 125 the service has failed for good: mark `O` comes before the `D`, and it is no
+    /// longer wanted up. Stale unless `finish` was there. Pages `servicedir`, "finish", and
+    /// `s6-supervise`, "Events".
     pub fn finish_ended(&mut self, generation: u64, exit: Exit, now: At) -> Out
         requires { self.old.generation + 1 < 2 ^ 64 }
         ensures gives { MatchesMove
@@ -228,9 +239,10 @@ impl ChartState {
         out
     }
 
-    /// `finish` of the run of this number (`generation`) ended: mark `D`, and what comes next (`settle`). With the exit code 125 the service has
-    /// failed for good: mark `O` comes first, and it is no longer wanted up. The report is stale, and changes nothing, unless this `finish` was
-    /// there. The marks, at most three, and the order are added to what is in `out`.
+    /// `finish` of the run of this number (`generation`) ended: mark `D`, and what comes next
+    /// (`settle`). With the exit code 125 the service has failed for good: mark `O` comes first,
+    /// and it is no longer wanted up. The report is stale, and changes nothing, unless this
+    /// `finish` was there. The marks, at most three, and the order are added to what is in `out`.
     pub fn finish_ended_onto(&mut self, generation: u64, exit: Exit, now: At, out: &mut Out)
         requires marks { length out.old.events.items + 3 ≤ 4 }
         requires room { length out.old.orders.items < 126 }

@@ -1,5 +1,5 @@
-//! A service: its `standing`, which is its `chart` (the state that changes act on) and its `status` (what is stored of its marks for the status
-//! row); and its `tally`, the last deaths.
+//! A service: its `standing`, which is its `chart` (the state that changes act on) and its `status`
+//! (what is stored of its marks for the status row); and its `tally`, the last deaths.
 ghost use Rattle.std.specs.Prelude.{◌≡◌, ◌+◌, ◌<◌, ◌^◌, ◌++◌, List, IfOk};
 ghost use Rattle.s6_events.specs.declared.moment.Moment.{Moment};
 ghost use Rattle.supervise_core.specs.ChartState.{new_service, no_move};
@@ -43,9 +43,10 @@ impl<A: Allocator> Model for Service<A> {
 }
 
 impl<A: Allocator + Copy> Service<A> {
-    /// A new active service, whose supervisor starts: mark `s`, and the first run is ordered unless the directory has `down`. It takes
-    /// the memory of its tally, for as many deaths as the configuration says. `NoMemory` where that is refused. Page `s6-supervise`,
-    /// "Detailed operation", and `servicedir`, `max-death-tally`. Nothing of it depends on the moment.
+    /// A new active service, whose supervisor starts: mark `s`, and the first run is ordered unless
+    /// the directory has `down`. It takes the memory of its tally, for as many deaths as the
+    /// configuration says. `NoMemory` where that is refused. Page `s6-supervise`, "Detailed
+    /// operation", and `servicedir`, `max-death-tally`. Nothing of it depends on the moment.
     pub fn begin(
         alloc: A,
         sid: Sid,
@@ -66,8 +67,9 @@ impl<A: Allocator + Copy> Service<A> {
         Ok((service, out))
     }
 
-    /// A new active service, whose supervisor starts: mark `s`, and the first run is ordered unless the directory has `down`. Both are put into
-    /// `out`, in place of what that held: it is large, and a scan that adds many services fills one. It takes the memory of its tally, for as many
+    /// A new active service, whose supervisor starts: mark `s`, and the first run is ordered unless
+    /// the directory has `down`. Both are put into `out`, in place of what that held: it is large,
+    /// and a scan that adds many services fills one. It takes the memory of its tally, for as many
     /// deaths as the configuration says. Where memory is refused, nothing is said of `out`.
     pub fn begin_into(
         alloc: A,
@@ -92,7 +94,8 @@ impl<A: Allocator + Copy> Service<A> {
         Ok(Service { standing, tally })
     }
 
-    /// A copy of its chart state, which is its state without its deaths. The copy takes the same changes.
+    /// A copy of its chart state, which is its state without its deaths. The copy takes the same
+    /// changes.
     pub fn chart(&self) -> ChartState
         ensures { result ≡ self.now.chart }
     {
@@ -120,7 +123,8 @@ impl<A: Allocator + Copy> Service<A> {
         self.standing.status()
     }
 
-    /// Its tally: its last deaths, and how many it keeps at most. Page `servicedir`, `max-death-tally`.
+    /// Its tally: its last deaths, and how many it keeps at most. Page `servicedir`,
+    /// `max-death-tally`.
     pub fn tally(&self) -> &Tally<A>
         ensures { result.now ≡ self.now.tally }
     {
@@ -139,7 +143,8 @@ impl<A: Allocator + Copy> Service<A> {
         })
     }
 
-    /// All of it but its tally. A copy of that takes the same changes, and `adopt` then takes it over.
+    /// All of it but its tally. A copy of that takes the same changes, and `adopt` then takes it
+    /// over.
     pub fn standing(&self) -> &ServiceState
         ensures { result.now ≡ service_view self.now }
     {
@@ -155,8 +160,8 @@ impl<A: Allocator + Copy> Service<A> {
         }
     }
 
-    /// Takes over the state and the status of `standing`, a copy of its own that took changes, and adds to its tally the death that these
-    /// reported, if they did.
+    /// Takes over the state and the status of `standing`, a copy of its own that took changes, and
+    /// adds to its tally the death that these reported, if they did.
     pub fn adopt(&mut self, standing: &ServiceState, death: Option<(At, Exit)>)
         ensures { self.new ≡ with_view standing.now death self.old }
     {
@@ -164,7 +169,8 @@ impl<A: Allocator + Copy> Service<A> {
         self.join(death);
     }
 
-    /// Its status row, which is that of every history that agrees with what it stores. Page `s6-svstat`.
+    /// Its status row, which is that of every history that agrees with what it stores. Page
+    /// `s6-svstat`.
     pub fn row(&self, now: At) -> Row
         ensures { (history : List Moment) → AgreesWith self.now history
             → result ≡ status_row history now self.now.chart }
@@ -172,7 +178,8 @@ impl<A: Allocator + Copy> Service<A> {
         self.standing.status.row(&self.standing.chart, now)
     }
 
-    /// `run` of this generation was spawned: mark `u`. Stale unless its start was under way. Page `s6-supervise`, "Events".
+    /// `run` of this generation was spawned: mark `u`. Stale unless its start was under way. Page
+    /// `s6-supervise`, "Events".
     pub fn started(&mut self, generation: u64, pid: u32, now: At) -> Out
         ensures gives { MatchesMove
             (started_move generation pid now self.old.chart) self.new.chart result }
@@ -187,8 +194,9 @@ impl<A: Allocator + Copy> Service<A> {
         out
     }
 
-    /// `run` or `finish` of this generation could not be spawned. The supervisor ends, if it was told to; else `run` is tried again after
-    /// 60000 ms, if it is wanted up. `finish` counts as done. Stale unless the start of `run` was under way, or `finish` was there. Page
+    /// `run` or `finish` of this generation could not be spawned. The supervisor ends, if it was
+    /// told to; else `run` is tried again after 60000 ms, if it is wanted up. `finish` counts as
+    /// done. Stale unless the start of `run` was under way, or `finish` was there. Page
     /// `s6-supervise`, "Detailed operation"; what a failed spawn of `finish` means is chosen here.
     pub fn start_failed(&mut self, generation: u64, now: At) -> Out
         requires { self.old.chart.generation + 1 < 2 ^ 64 }
@@ -205,8 +213,8 @@ impl<A: Allocator + Copy> Service<A> {
         out
     }
 
-    /// `run` of this generation wrote these bytes to its notification descriptor: mark `U` at its first newline. Stale unless it was
-    /// up. Page `notifywhenup`.
+    /// `run` of this generation wrote these bytes to its notification descriptor: mark `U` at its
+    /// first newline. Stale unless it was up. Page `notifywhenup`.
     pub fn notify(&mut self, generation: u64, bytes: &[u8], now: At) -> Out
         ensures gives { MatchesMove
             (notify_move generation bytes.now now self.old.chart) self.new.chart result }
@@ -221,8 +229,8 @@ impl<A: Allocator + Copy> Service<A> {
         out
     }
 
-    /// `run` of this generation died: mark `d`, then `finish`, or mark `D` and what comes next. Stale unless it was up. Page
-    /// `s6-supervise`, "Detailed operation".
+    /// `run` of this generation died: mark `d`, then `finish`, or mark `D` and what comes next.
+    /// Stale unless it was up. Page `s6-supervise`, "Detailed operation".
     pub fn death(&mut self, generation: u64, exit: Exit, now: At) -> Out
         requires { self.old.chart.generation + 1 < 2 ^ 64 }
         ensures gives { MatchesMove
@@ -241,8 +249,9 @@ impl<A: Allocator + Copy> Service<A> {
         out
     }
 
-    /// `finish` of this generation ended: mark `D` and what comes next; with the exit code 125, mark `O` first. Stale unless it was
-    /// there. Pages `servicedir`, "finish", and `s6-supervise`, "Events".
+    /// `finish` of this generation ended: mark `D` and what comes next; with the exit code 125,
+    /// mark `O` first. Stale unless it was there. Pages `servicedir`, "finish", and `s6-supervise`,
+    /// "Events".
     pub fn finish_ended(&mut self, generation: u64, exit: Exit, now: At) -> Out
         requires { self.old.chart.generation + 1 < 2 ^ 64 }
         ensures gives { MatchesMove
@@ -258,8 +267,8 @@ impl<A: Allocator + Copy> Service<A> {
         out
     }
 
-    /// A user sent these letters; they are done in the order written. Once the supervisor has ended no letter does anything. Page
-    /// `s6-svc`.
+    /// A user sent these letters; they are done in the order written. Once the supervisor has ended
+    /// no letter does anything. Page `s6-svc`.
     pub fn control(&mut self, letters: &Letters, now: At) -> Out
         requires { self.old.chart.generation + 1 < 2 ^ 64 }
         ensures gives { MatchesMove
@@ -275,7 +284,8 @@ impl<A: Allocator + Copy> Service<A> {
         out
     }
 
-    /// Its timer goes off, where it is due: a start, a SIGKILL or a new supervisor. Else nothing happens. Page `s6-supervise`.
+    /// Its timer goes off, where it is due: a start, a SIGKILL or a new supervisor. Else nothing
+    /// happens. Page `s6-supervise`.
     pub fn fire(&mut self, now: At) -> Out
         requires { self.old.chart.generation + 1 < 2 ^ 64 }
         ensures gives { MatchesMove (fire_move now self.old.chart) self.new.chart result }
@@ -290,8 +300,9 @@ impl<A: Allocator + Copy> Service<A> {
         out
     }
 
-    /// Takes any of the changes. All its marks together begin a word of (`s` (`u` `U`? `d` `O`? `D`)* `x`)*: where some marks led to its
-    /// state before, these and the marks of the change lead to its state after. Page `s6-supervise`, "Events".
+    /// Takes any of the changes. All its marks together begin a word of (`s` (`u` `U`? `d` `O`?
+    /// `D`)* `x`)*: where some marks led to its state before, these and the marks of the change
+    /// lead to its state after. Page `s6-supervise`, "Events".
     pub fn change(&mut self, change: &Change, now: At) -> Out
         requires { self.old.chart.generation + 1 < 2 ^ 64 }
         ensures gives { MatchesMove
@@ -324,8 +335,8 @@ impl<A: Allocator + Copy> Service<A> {
         Out::new()
     }
 
-    /// Takes the configuration that was now read of its directory; how many deaths are kept stays as it was. Page `servicedir`. That gives no mark
-    /// and no order.
+    /// Takes the configuration that was now read of its directory; how many deaths are kept stays
+    /// as it was. Page `servicedir`. That gives no mark and no order.
     pub fn set_config(&mut self, config: Config) -> Out
         ensures gives { MatchesMove
             (no_move (with_config config self.old.chart)) self.new.chart result }

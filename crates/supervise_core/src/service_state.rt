@@ -14,8 +14,9 @@ use s6_events::{At, Sid};
 use servicedir::Config;
 use std::marker::Model;
 
-/// A service without its tally: its chart state, and what it stores of its marks. It is copyable and takes each change as its service
-/// does, so that a change is known before it is made. No change takes memory.
+/// A service without its tally: its chart state, and what it stores of its marks. It is copyable
+/// and takes each change as its service does, so that a change is known before it is made. No
+/// change takes memory.
 #[derive(Clone, Copy)]
 pub struct ServiceState {
     pub(crate) chart: ChartState,
@@ -86,9 +87,11 @@ impl ServiceState {
         out
     }
 
-    /// Takes any of the changes, as its service does, and adds the marks and orders that this gives to what is in `out`. For letters `out` must
-    /// hold no order, even where they are few. All marks of the service together begin a word of (`s` (`u` `U`? `d` `O`? `D`)* `x`)*: where some
-    /// marks led to its state before, these and the marks of the change lead to its state after. Page `s6-supervise`, "Events".
+    /// Takes any of the changes, as its service does, and adds the marks and orders that this gives
+    /// to what is in `out`. For letters `out` must hold no order, even where they are few. All
+    /// marks of the service together begin a word of (`s` (`u` `U`? `d` `O`? `D`)* `x`)*: where
+    /// some marks led to its state before, these and the marks of the change lead to its state
+    /// after. Page `s6-supervise`, "Events".
     pub fn change_onto(&mut self, change: &Change, now: At, out: &mut Out)
         requires marks { length out.old.events.items + most_marks change.now ≤ 4 }
         requires room { length out.old.orders.items + most_orders change.now ≤ 126 }
@@ -118,7 +121,8 @@ impl ServiceState {
         self.chart.set_active(active, now);
     }
 
-    /// Takes the configuration that was now read of its directory; how many deaths are kept stays as it was. Page `servicedir`.
+    /// Takes the configuration that was now read of its directory; how many deaths are kept stays
+    /// as it was. Page `servicedir`.
     pub fn set_config(&mut self, config: Config)
         ensures { self.new ≡ record self.old { chart = with_config config self.old.chart } }
     {

@@ -17,8 +17,9 @@ impl ChartState {
         self.timer.is_some_and(|due| due <= now.millis())
     }
 
-    /// Its timer goes off, where it is due: a start, a SIGKILL for `run` or `finish`, or a new supervisor, by the phase. Else nothing
-    /// happens. Pages `s6-supervise` and `servicedir`, "timeout-kill" and "timeout-finish".
+    /// Its timer goes off, where it is due: a start, a SIGKILL for `run` or `finish`, or a new
+    /// supervisor, by the phase. Else nothing happens. Pages `s6-supervise` and `servicedir`,
+    /// "timeout-kill" and "timeout-finish".
     pub fn fire(&mut self, now: At) -> Out
         requires { self.old.generation + 1 < 2 ^ 64 }
         ensures gives { MatchesMove (fire_move now self.old) self.new result }
@@ -31,7 +32,8 @@ impl ChartState {
         out
     }
 
-    /// Its timer goes off, where it is due; else nothing happens. The mark and the order that this gives are added to what is in `out`.
+    /// Its timer goes off, where it is due; else nothing happens. The mark and the order that this
+    /// gives are added to what is in `out`.
     pub fn fire_onto(&mut self, now: At, out: &mut Out)
         requires marks { length out.old.events.items < 4 }
         requires room { length out.old.orders.items < 126 }
@@ -46,8 +48,9 @@ impl ChartState {
         }
     }
 
-    // What the timer does, by the phase. It was set in Down for the next start; in Up to kill a run that is slow to go down (`timeout-kill`); in
-    // Finish to kill a `finish` that is slow to end (`timeout-finish`); in Gone for a new supervisor. In Starting none is set.
+    // What the timer does, by the phase. It was set in Down for the next start; in Up to kill a run
+    // that is slow to go down (`timeout-kill`); in Finish to kill a `finish` that is slow to end
+    // (`timeout-finish`); in Gone for a new supervisor. In Starting none is set.
     fn take_timer_rule(&mut self, out: &mut Out)
         requires marks { length out.old.events.items < 4 }
         requires room { length out.old.orders.items < 126 }

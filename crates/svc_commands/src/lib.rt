@@ -15,7 +15,7 @@ mod usage_fault;
 
 pub use control_letters::{ControlLetter, Letters};
 pub use letter_law::{law_of_svc, law_of_svscanctl};
-pub use names::Names;
+pub use names::WaitNames;
 pub use permafailon::{PermafailCommand, compile_permafailon};
 pub use svc::{SvcCommand, compile_svc};
 pub use svlisten::{ListenCommand, compile_svlisten};

@@ -1,4 +1,5 @@
-//! What svwait, svlisten, svstat and permafailon have in common: a simple command of `clap`, and its matches.
+//! What svwait, svlisten, svstat and permafailon have in common: a simple command of `clap`, and
+//! its matches.
 ghost use Rattle.std.specs.Prelude.{◌≡◌, [], true, false, None, Some, IfOk, MatchResult, map, codes, option_map, option_and_then};
 ghost use Rattle.clap.specs.Words.{app_of, with_rule, rows_of, found_of, first_of, all_of};
 ghost use Rattle.svc_commands.specs.Matches.{flag_rule, option_rule, names_rule, word_rule, plain_app, with_wait_rules, is_simple_app, rows_for, kinds_for};
@@ -12,7 +13,8 @@ use clap::{Arg, ArgAction, ArgMatches, Command};
 use servicedir::parse_number;
 use std::alloc::{AllocError, Global};
 
-// A command with no option, and with no help of its own. The words that it is given do not begin with the name of the program.
+// A command with no option, and with no help of its own. The words that it is given do not begin
+// with the name of the program.
 pub fn bare_command<'a>(alloc: Global, name: &'a str) -> Command<'a>
     ensures { app_of result ≡ plain_app name.entry.now }
 {
@@ -70,8 +72,9 @@ pub fn with_word<'a>(
     command.arg(word)
 }
 
-// The command with the options that svwait and svlisten have in common: what is waited for (`u` up, `U` up and ready, `d` down, `D` down with
-// `finish` ended), of how many services (`a` all, `o` one), and the timeout (`t`).
+// The command with the options that svwait and svlisten have in common: what is waited for (`u` up,
+// `U` up and ready, `d` down, `D` down with `finish` ended), of how many services (`a` all, `o`
+// one), and the timeout (`t`).
 pub fn with_wait_options<'a>(alloc: Global, command: Command<'a>) -> Result<Command<'a>, AllocError>
     ensures { IfOk result (λ r. app_of r ≡ with_wait_rules (app_of command.entry)) }
 {
@@ -112,15 +115,16 @@ pub fn matches_in<'a>(
     }
 }
 
-// The value of the option, or the positional argument, of this id, as the words have it; None where it was not given.
+// The value of the option, or the positional argument, of this id, as the words have it; None where
+// it was not given.
 pub fn text_of<'a>(matches: &ArgMatches<'a>, id: &str) -> Option<&'a str>
     ensures { option_map (λ s. s.now) result ≡ first_of id.now (rows_of (found_of matches.now)) }
 {
     matches.get_str(id)
 }
 
-// The value of the option, or the positional argument, of this id as a number; None where it was not given. BadNumber where it is no
-// number.
+// The value of the option, or the positional argument, of this id as a number; None where it was
+// not given. BadNumber where it is no number.
 pub fn number_in(matches: &ArgMatches<'_>, id: &str) -> Result<Option<u32>, UsageFault>
     ensures { let given = first_of id.now (rows_of (found_of matches.now)) in
         MatchResult result

@@ -9,7 +9,7 @@ use arrayvec::ArrayVec;
 use s6_events::Name;
 
 /// The names of one wait: at most 16.
-pub type Names = ArrayVec<Name, 16>;
+pub type WaitNames = ArrayVec<Name, 16>;
 
 // The word as a name. BadName where it is none.
 pub(crate) fn name_of(word: &[u8]) -> Result<Name, UsageFault>
@@ -20,7 +20,7 @@ pub(crate) fn name_of(word: &[u8]) -> Result<Name, UsageFault>
 }
 
 // The words as names. BadName where one of them is none; else TooMany where they are more than 16.
-pub(crate) fn names_in(words: &[&str]) -> Result<Names, UsageFault>
+pub(crate) fn names_in(words: &[&str]) -> Result<WaitNames, UsageFault>
     ensures { let texts = map (λ w. w.now) words.now in
         MatchResult result (λ names. (names.items ≡ texts) × (names_fault texts ≡ None))
         (λ fault. names_fault texts ≡ Some fault) }
@@ -29,7 +29,7 @@ pub(crate) fn names_in(words: &[&str]) -> Result<Names, UsageFault>
     if !are_names(words) {
         return Err(UsageFault::BadName);
     }
-    let mut names = Names::new();
+    let mut names = WaitNames::new();
     for word in words {
         let name = name_of(word.as_bytes())?;
         add_name(&mut names, name)?;
@@ -38,7 +38,7 @@ pub(crate) fn names_in(words: &[&str]) -> Result<Names, UsageFault>
 }
 
 // Adds one more name to those of the command line; TooMany where there are 16 already.
-fn add_name(names: &mut Names, name: Name) -> Result<(), UsageFault>
+fn add_name(names: &mut WaitNames, name: Name) -> Result<(), UsageFault>
     ensures { MatchResult result
         (λ _. (names.new.items ≡ names.old.items ++ name ∷ []) × (length names.new.items ≤ 16))
         (λ fault. (16 ≤ length names.old.items) × (fault ≡ UsageFault.TooMany)) }

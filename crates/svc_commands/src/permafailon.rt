@@ -15,8 +15,8 @@ use death_tally::DeathList;
 use s6_events::Name;
 use std::alloc::{AllocError, Global};
 
-/// What is asked of the deaths of a service: whether at least `count` of them are named by `list` and no longer ago than `secs`
-/// seconds. Page `s6-permafailon`.
+/// What is asked of the deaths of a service: whether at least `count` of them are named by `list`
+/// and no longer ago than `secs` seconds. Page `s6-permafailon`.
 #[derive(Debug, Drop)]
 pub struct PermafailCommand {
     pub name: Name,
@@ -25,10 +25,12 @@ pub struct PermafailCommand {
     pub list: DeathList,
 }
 
-/// Reads the words after `permafailon`: a name, seconds, a count and a list of exits, in this order. Unknown where `clap` refuses the
-/// words, as it does a fifth one. Else the fault is the first of these: BadNumber where the seconds or the count are no number,
-/// BadList where `DeathList::parse` does not take the list, Missing where there are fewer than four words, BadName where the name is
-/// none. NoMemory where memory is refused. Page `s6-permafailon`; the name in front and the order of the faults are chosen here.
+/// Reads the words after `permafailon`: a name, seconds, a count and a list of exits, in this
+/// order. Unknown where `clap` refuses the words, as it does a fifth one. Else the fault is the
+/// first of these: BadNumber where the seconds or the count are no number, BadList where
+/// `DeathList::parse` does not take the list, Missing where there are fewer than four words,
+/// BadName where the name is none. NoMemory where memory is refused. Page `s6-permafailon`; the
+/// name in front and the order of the faults are chosen here.
 #[tactic(auto, using(crate::proofs::Parses::permafail_is_simple))]
 pub fn compile_permafailon<'a>(
     alloc: Global,
@@ -48,8 +50,9 @@ pub fn compile_permafailon<'a>(
     permafail_command(alloc, &matches)
 }
 
-// The command line, as `clap` sees it: four words, each with the id by which it is looked up later. They ask whether the service `name` died at
-// least `count` times in the last `secs` seconds by one of the exits of `list`.
+// The command line, as `clap` sees it: four words, each with the id by which it is looked up later.
+// They ask whether the service `name` died at least `count` times in the last `secs` seconds by one
+// of the exits of `list`.
 #[tactic(auto, unfolding(crate::specs::Matches::permafail_app))]
 fn permafailon_command<'a>(alloc: Global) -> Result<Command<'a>, AllocError>
     ensures { IfOk result (λ r. app_of r ≡ permafail_app) }
@@ -71,7 +74,8 @@ fn permafail_command(
         (λ command. (permafail_fault rows ≡ None) × IsPermafailCommand rows command)
         (λ fault. (fault ≡ UsageFault.NoMemory) ⊎ (permafail_fault rows ≡ Some fault)) }
 {
-    // These lines are in the order of the faults: what is no number or no list, then what is missing, then a name that is none.
+    // These lines are in the order of the faults: what is no number or no list, then what is
+    // missing, then a name that is none.
     let secs = number_in(matches, "secs")?;
     let count = number_in(matches, "count")?;
     let list = exits_in(alloc, matches)?;

@@ -17,10 +17,11 @@ pub struct SvcCommand {
     pub letters: Letters,
 }
 
-/// Reads the words after `svc`: runs of letters, each behind a dash, and one name, in any order; `o` is `u` and `O`. The fault is the
-/// first one, in the order of the words: Unknown for a dash alone or an unknown letter, TooMany for a 64th letter or a second name,
-/// BadName for a word that is neither a run nor a name. After all words it is Missing, where there was no letter or no name. Page
-/// `s6-svc`; the limit and the faults are chosen here.
+/// Reads the words after `svc`: runs of letters, each behind a dash, and one name, in any order;
+/// `o` is `u` and `O`. The fault is the first one, in the order of the words: Unknown for a dash
+/// alone or an unknown letter, TooMany for a 64th letter or a second name, BadName for a word that
+/// is neither a run nor a name. After all words it is Missing, where there was no letter or no
+/// name. Page `s6-svc`; the limit and the faults are chosen here.
 pub fn compile_svc(words: &[&str]) -> Result<SvcCommand, UsageFault>
     ensures { MatchResult result (IsSvcCommand (map (λ w. w.now) words.now))
         (λ fault. svc_fault (map (λ w. w.now) words.now) ≡ Some fault) }
@@ -36,7 +37,8 @@ pub fn compile_svc(words: &[&str]) -> Result<SvcCommand, UsageFault>
     }
 }
 
-// Adds the letters of a word that begins with a dash (a run), or takes any other word as the name of the service.
+// Adds the letters of a word that begins with a dash (a run), or takes any other word as the name
+// of the service.
 fn read_word(letters: &mut Letters, name: &mut Option<Name>, word: &[u8]) -> Result<(), UsageFault>
     ensures { MatchResult result (λ _. AddsName word.now name.old name.new
         × IsRead svc_letters name_fault word.now letters.old.items
@@ -64,8 +66,8 @@ fn only_name(before: Option<Name>, word: &[u8]) -> Result<Name, UsageFault>
     }
 }
 
-// Adds the letters of a run; `run` is what stands behind its dash. Unknown where it is empty or a letter means nothing, TooMany at a 64th
-// letter.
+// Adds the letters of a run; `run` is what stands behind its dash. Unknown where it is empty or a
+// letter means nothing, TooMany at a 64th letter.
 fn add_run(letters: &mut Letters, run: &[u8]) -> Result<(), UsageFault>
     ensures { MatchResult result
         (λ _. (run_fault svc_letters (length letters.old.items) run.now ≡ None)
@@ -81,7 +83,8 @@ fn add_run(letters: &mut Letters, run: &[u8]) -> Result<(), UsageFault>
     Ok(())
 }
 
-// Adds what one byte means: `u` and `O` for `o`, else the letter that it stands for. Unknown where it stands for none.
+// Adds what one byte means: `u` and `O` for `o`, else the letter that it stands for. Unknown where
+// it stands for none.
 #[tactic(auto, unfolding(crate::specs::LetterWords::svc_letters))]
 fn add_byte(letters: &mut Letters, byte: u8) -> Result<(), UsageFault>
     ensures { MatchResult result

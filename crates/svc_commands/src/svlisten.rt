@@ -13,16 +13,18 @@ use crate::usage_fault::UsageFault;
 use clap::Command;
 use std::alloc::{AllocError, Global};
 
-/// A wait, and the program that is started once the waiter is made: its own name first, then its arguments. Page `s6-svlisten`.
+/// A wait, and the program that is started once the waiter is made: its own name first, then its
+/// arguments. Page `s6-svlisten`.
 #[derive(Debug, Drop)]
 pub struct ListenCommand<'a> {
     pub wait: WaitCommand,
     pub program: &'a [&'a str],
 }
 
-/// Reads the words after `svlisten`. Those before the first `--` are read as `compile_svwait` reads them, and may have `-r` or `-R`
-/// too; those after it are the program. The faults are those of `compile_svwait`, in its order; Missing also where there is no
-/// program. Page `s6-svlisten`; the cut, `-r` and `-R` are chosen here.
+/// Reads the words after `svlisten`. Those before the first `--` are read as `compile_svwait` reads
+/// them, and may have `-r` or `-R` too; those after it are the program. The faults are those of
+/// `compile_svwait`, in its order; Missing also where there is no program. Page `s6-svlisten`; the
+/// cut, `-r` and `-R` are chosen here.
 #[tactic(auto, using(crate::proofs::Parses::listen_is_simple))]
 pub fn compile_svlisten<'a>(
     alloc: Global,
@@ -42,7 +44,8 @@ pub fn compile_svlisten<'a>(
     let own = before_dashes(words);
     let program = after_dashes(words);
     let matches = matches_in(command, own)?;
-    // A missing program is a fault that is looked for among those of the wait, so `wait_command` is told of it.
+    // A missing program is a fault that is looked for among those of the wait, so `wait_command` is
+    // told of it.
     let wait = wait_command(&matches, has_no_word(program))?;
     Ok(ListenCommand { wait, program })
 }
@@ -59,7 +62,8 @@ fn svlisten_command<'a>(alloc: Global) -> Result<Command<'a>, AllocError>
     with_names(alloc, command)
 }
 
-// Whether there is no word behind `--`, so that `svlisten` has no program to start. `words` are the words of that program.
+// Whether there is no word behind `--`, so that `svlisten` has no program to start. `words` are the
+// words of that program.
 fn has_no_word(words: &[&str]) -> bool
     ensures { result ≡ is_empty (map (λ w. w.now) words.now) }
 {
@@ -85,7 +89,8 @@ fn after_dashes<'a>(words: &'a [&'a str]) -> &'a [&'a str]
     }
 }
 
-// The place of the first `--`, or the end. The words before it are options and names; those behind it are the program that is run.
+// The place of the first `--`, or the end. The words before it are options and names; those behind
+// it are the program that is run.
 fn cut_at(words: &[&str]) -> usize
     ensures place { result ≡ unwrap_or (position (λ w. bytes_eq w.now (codes "--")) words.now)
         (length words.now) }
@@ -97,7 +102,8 @@ fn cut_at(words: &[&str]) -> usize
     }
 }
 
-// The place of the first `--`, which stands between the words of `svlisten` and those of its program; None where there is none.
+// The place of the first `--`, which stands between the words of `svlisten` and those of its
+// program; None where there is none.
 fn first_dashes(words: &[&str]) -> Option<usize>
     ensures place { result ≡ position (λ w. bytes_eq w.now (codes "--")) words.now }
     ensures bound { IfSome result (λ at. at < length words.now) }

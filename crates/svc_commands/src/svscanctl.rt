@@ -29,10 +29,11 @@ pub struct ScanCommand {
     pub letters: ScanLetters,
 }
 
-/// Reads the words after `svscanctl`: runs of the letters a n h t q, each behind a dash; `h` is `a` and `n`, and `q` is `t`.
-/// The fault is the first one, in the order of the words: Unknown for a dash alone or another letter, TooMany for a 64th letter or a
-/// word that is no run. After all words it is Missing, where there was no letter. Page `s6-svscanctl`; the limit, the faults
-/// and what `h` and `q` become are chosen here.
+/// Reads the words after `svscanctl`: runs of the letters a n h t q, each behind a dash; `h` is `a`
+/// and `n`, and `q` is `t`. The fault is the first one, in the order of the words: Unknown for a
+/// dash alone or another letter, TooMany for a 64th letter or a word that is no run. After all
+/// words it is Missing, where there was no letter. Page `s6-svscanctl`; the limit, the faults and
+/// what `h` and `q` become are chosen here.
 pub fn compile_svscanctl(words: &[&str]) -> Result<ScanCommand, UsageFault>
     ensures { MatchResult result (IsScanCommand (map (λ w. w.now) words.now))
         (λ fault. scan_fault (map (λ w. w.now) words.now) ≡ Some fault) }
@@ -59,8 +60,8 @@ fn read_word(letters: &mut ScanLetters, word: &[u8]) -> Result<(), UsageFault>
     }
 }
 
-// Adds what the letters of a run mean; `run` is what stands behind its dash. Unknown where it is empty or one of its letters means nothing,
-// TooMany where the letters would be more than 63.
+// Adds what the letters of a run mean; `run` is what stands behind its dash. Unknown where it is
+// empty or one of its letters means nothing, TooMany where the letters would be more than 63.
 fn add_run(letters: &mut ScanLetters, run: &[u8]) -> Result<(), UsageFault>
     ensures { MatchResult result
         (λ _. (run_fault scan_letters (length letters.old.items) run.now ≡ None)
@@ -76,7 +77,8 @@ fn add_run(letters: &mut ScanLetters, run: &[u8]) -> Result<(), UsageFault>
     Ok(())
 }
 
-// Adds what one byte means: a letter that stands for itself, or `h`, which is `a` and `n`, or `q`, which is `t`. Unknown where it means nothing.
+// Adds what one byte means: a letter that stands for itself, or `h`, which is `a` and `n`, or `q`,
+// which is `t`. Unknown where it means nothing.
 fn add_byte(letters: &mut ScanLetters, byte: u8) -> Result<(), UsageFault>
     ensures { MatchResult result
         (λ _. (letter_fault (length letters.old.items) (scan_letters byte) ≡ None)
@@ -95,7 +97,8 @@ fn add_byte(letters: &mut ScanLetters, byte: u8) -> Result<(), UsageFault>
     }
 }
 
-// Adds one more letter to those that the supervisor of the scan directory is told; TooMany where there are 63 already.
+// Adds one more letter to those that the supervisor of the scan directory is told; TooMany where
+// there are 63 already.
 fn add_letter(letters: &mut ScanLetters, letter: ScanLetter) -> Result<(), UsageFault>
     ensures { MatchResult result
         (λ _. (length letters.old.items < 63)

@@ -29,16 +29,18 @@ const FIELDS: [Field; 10] = [
     Field::ReadyFor,
 ];
 
-/// What is asked of a service: `fields`, in the order written, each as often as it was written. Page `s6-svstat`.
+/// What is asked of a service: `fields`, in the order written, each as often as it was written.
+/// Page `s6-svstat`.
 #[derive(Debug, Drop)]
 pub struct StatCommand {
     pub name: Name,
     pub fields: Vec<Field>,
 }
 
-/// Reads the words after `svstat`: `-o` with a list of fields, a comma between two of them, and one name. Unknown where `clap`
-/// refuses the words, as it does a second name. Else the fault is the first of these: BadList where an item is no field, Missing
-/// where there is no list or no name, BadName where the name is none. NoMemory where memory is refused. Page `s6-svstat`; the ten
+/// Reads the words after `svstat`: `-o` with a list of fields, a comma between two of them, and one
+/// name. Unknown where `clap` refuses the words, as it does a second name. Else the fault is the
+/// first of these: BadList where an item is no field, Missing where there is no list or no name,
+/// BadName where the name is none. NoMemory where memory is refused. Page `s6-svstat`; the ten
 /// fields and the order of the faults are chosen here.
 #[tactic(auto, using(crate::proofs::Parses::stat_is_simple))]
 pub fn compile_svstat<'a>(alloc: Global, words: &'a [&'a str]) -> Result<StatCommand, UsageFault>
@@ -108,7 +110,8 @@ fn listed(item: &[u8]) -> Result<Field, UsageFault>
     field_of(item).ok_or(UsageFault::BadList)
 }
 
-// Adds one more field to those that `svstat` is to print of a service; NoMemory where memory is refused.
+// Adds one more field to those that `svstat` is to print of a service; NoMemory where memory is
+// refused.
 fn add_field(fields: &mut Vec<Field>, field: Field) -> Result<(), UsageFault>
     ensures { MatchResult result (λ _. fields.new.items ≡ fields.old.items ++ field ∷ [])
         (λ fault. fault ≡ UsageFault.NoMemory) }
@@ -123,7 +126,8 @@ fn items_of<'a>(alloc: Global, list: &'a [u8]) -> Result<Vec<&'a [u8]>, AllocErr
     list.split(|byte| *byte == b',').collect(alloc)
 }
 
-// The field of a status row that is asked for by this name, as `wantedup`; None where there is none.
+// The field of a status row that is asked for by this name, as `wantedup`; None where there is
+// none.
 #[tactic(auto, unfolding(crate::specs::Fields::field_named))]
 fn field_of(word: &[u8]) -> Option<Field>
     ensures { result ≡ field_named word.now }

@@ -10,7 +10,7 @@ ghost use Rattle.svc_commands.specs.RowsGiven.{timeout_given, timeout_of, is_bad
 use crate::matches::{
     bare_command, matches_in, name_words, number_in, with_names, with_wait_options,
 };
-use crate::names::{Names, names_in};
+use crate::names::{WaitNames, names_in};
 use crate::usage_fault::UsageFault;
 use clap::{ArgMatches, Command};
 use s6_events::{Condition, Mode};
@@ -22,13 +22,15 @@ pub struct WaitCommand {
     pub condition: Condition,
     pub mode: Mode,
     pub timeout: u32,
-    pub names: Names,
+    pub names: WaitNames,
 }
 
-/// Reads the words after `svwait`: `-u`, `-U`, `-d` or `-D`, `-a` or `-o`, `-t` with milliseconds, and 1 to 16 names; by default
-/// up, all and no timeout. Unknown where `clap` refuses the words. Else the fault is the first of these: TooMany where there are two
-/// conditions or two modes, BadNumber where the timeout is no number, Missing where there is no name, BadName where a name is none,
-/// TooMany where there is a 17th name. NoMemory where memory is refused. Page `s6-svwait`; the order of the faults is chosen here.
+/// Reads the words after `svwait`: `-u`, `-U`, `-d` or `-D`, `-a` or `-o`, `-t` with milliseconds,
+/// and 1 to 16 names; by default up, all and no timeout. Unknown where `clap` refuses the words.
+/// Else the fault is the first of these: TooMany where there are two conditions or two modes,
+/// BadNumber where the timeout is no number, Missing where there is no name, BadName where a name
+/// is none, TooMany where there is a 17th name. NoMemory where memory is refused. Page `s6-svwait`;
+/// the order of the faults is chosen here.
 #[tactic(auto, using(crate::proofs::Parses::wait_is_simple))]
 pub fn compile_svwait<'a>(alloc: Global, words: &'a [&'a str]) -> Result<WaitCommand, UsageFault>
     ensures { let texts = map (λ w. w.now) words.entry.now in
@@ -56,8 +58,8 @@ fn svwait_command<'a>(alloc: Global) -> Result<Command<'a>, AllocError>
     with_names(alloc, command)
 }
 
-// The command that the matches of svwait or svlisten say, or the first fault: its lines are in the order of the faults. `lacks_program`: svlisten
-// was given no program.
+// The command that the matches of svwait or svlisten say, or the first fault: its lines are in the
+// order of the faults. `lacks_program`: svlisten was given no program.
 pub(crate) fn wait_command(
     matches: &ArgMatches<'_>,
     lacks_program: bool,
@@ -86,8 +88,8 @@ pub(crate) fn wait_command(
     })
 }
 
-// How often the options are given in all that say what is waited for: `-u`, `-U`, `-d`, `-D`, and for svlisten `-r` and `-R`, of which
-// svwait counts none. More than one is refused.
+// How often the options are given in all that say what is waited for: `-u`, `-U`, `-d`, `-D`, and
+// for svlisten `-r` and `-R`, of which svwait counts none. More than one is refused.
 fn conditions(matches: &ArgMatches<'_>) -> u32
     ensures { result ≡ condition_count (rows_of (found_of matches.now)) }
 {
@@ -99,14 +101,16 @@ fn conditions(matches: &ArgMatches<'_>) -> u32
         + matches.get_count("R") as u32
 }
 
-// How often the options are given in all that say of how many services the condition has to hold: `-a` and `-o`. More than one is refused.
+// How often the options are given in all that say of how many services the condition has to hold:
+// `-a` and `-o`. More than one is refused.
 fn modes(matches: &ArgMatches<'_>) -> u32
     ensures { result ≡ mode_count (rows_of (found_of matches.now)) }
 {
     matches.get_count("a") as u32 + matches.get_count("o") as u32
 }
 
-// What is waited for, by the option that is given; without one, that the services are up. More than one option was refused before.
+// What is waited for, by the option that is given; without one, that the services are up. More than
+// one option was refused before.
 fn condition(matches: &ArgMatches<'_>) -> Condition
     ensures { result ≡ condition_of (rows_of (found_of matches.now)) }
 {
@@ -125,7 +129,8 @@ fn condition(matches: &ArgMatches<'_>) -> Condition
     }
 }
 
-// Of how many services the condition has to hold, by the option that is given: of one with `-o`, else of all of them.
+// Of how many services the condition has to hold, by the option that is given: of one with `-o`,
+// else of all of them.
 fn mode(matches: &ArgMatches<'_>) -> Mode
     ensures { result ≡ mode_of (rows_of (found_of matches.now)) }
 {

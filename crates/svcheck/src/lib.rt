@@ -5,4 +5,4 @@ mod lines;
 mod note_sentences;
 mod sentences;
 
-pub use lines::{Checked, checked_entries, push_bad_names};
+pub use lines::{CheckedEntries, checked_entries, push_bad_names};

@@ -1,5 +1,6 @@
-//! Lines for each entry of a scan directory, which say what svscan would do with it. A remark says why an entry's directory can't be used, a note what
-//! in one that can be used doesn't mean what its writer meant.
+//! Lines for each entry of a scan directory, which say what svscan would do with it. A remark says
+//! why an entry's directory can't be used, a note what in one that can be used doesn't mean what
+//! its writer meant.
 ghost use Rattle.std.specs.Prelude.{◌≡◌, ◌++◌, ◌||◌, IfOk, OnOk, count_by, is_none, nat_lt, option_map};
 ghost use Rattle.std.specs.List.{flat_map, list_any};
 ghost use Rattle.svcheck.specs.Lines.{fault_of, readiness_words, settings_words, supervised_line, note_line, line_for, usable_lines, refused_line, entry_lines, is_usable, full_line, checked_text, is_refused, is_wrong};
@@ -11,15 +12,12 @@ use s6_script::push_number;
 use scan_directory::{DirNote, Noted, Remark, fault_word, note_word};
 use servicedir::{Config, DirFault};
 use std::alloc::{AllocError, Global};
-use svscan_core::Entry;
+use svscan_core::{Entry, SERVICE_LIMIT};
 
-/// The most services that a tree supervises.
-const MOST_SERVICES: usize = 256;
-
-/// What svscan would do with the entries of a scan directory: in `text` lines for each, and in `is_wrong` whether one of them would not be
-/// supervised, or something is noted.
+/// What svscan would do with the entries of a scan directory: in `text` lines for each, and in
+/// `is_wrong` whether one of them would not be supervised, or something is noted.
 #[derive(Drop)]
-pub struct Checked {
+pub struct CheckedEntries {
     /// Lines for each of them.
     pub text: Vec<u8>,
     /// Whether one of them at least would not be supervised, or something is noted.
@@ -36,7 +34,8 @@ fn fault_of(remarks: &[Remark], name: Name) -> Option<DirFault>
         .map(|remark| remark.fault)
 }
 
-// Adds whether a service tells that it is ready: `descriptor` is the file descriptor on which it does, None where it doesn't.
+// Adds whether a service tells that it is ready: `descriptor` is the file descriptor on which it
+// does, None where it doesn't.
 fn push_readiness(text: &mut Vec<u8>, descriptor: Option<u8>) -> Result<(), AllocError>
     ensures { OnOk result (text.new.items ≡ text.old.items ++ readiness_words descriptor) }
 {
@@ -117,7 +116,8 @@ fn push_notes_for(
     Ok(())
 }
 
-// Adds the lines of a service that svscan would supervise: the one that says so, and one for each note.
+// Adds the lines of a service that svscan would supervise: the one that says so, and one for each
+// note.
 fn push_usable(
     text: &mut Vec<u8>,
     name: Name,
@@ -157,7 +157,8 @@ fn push_entry(
     let fault = fault_of(remarks, entry.name);
     match entry.config {
         Some(config) => push_usable(text, entry.name, config, notes),
-        // `read_listing` has a remark for each entry without a configuration, so `Io` never stands in for one.
+        // `read_listing` has a remark for each entry without a configuration, so `Io` never stands
+        // in for one.
         None => push_refused(text, entry.name.as_bytes(), fault.unwrap_or(DirFault::Io)),
     }
 }
@@ -178,7 +179,8 @@ fn push_entries(
     Ok(())
 }
 
-// The number of entries whose directory could be read, so that svscan can supervise them as services.
+// The number of entries whose directory could be read, so that svscan can supervise them as
+// services.
 fn usable_count(entries: &[Entry]) -> usize
     ensures { result ≡ count_by is_usable entries.now }
 {
@@ -192,7 +194,7 @@ fn usable_count(entries: &[Entry]) -> usize
 fn push_full(text: &mut Vec<u8>, count: usize) -> Result<(), AllocError>
     ensures { OnOk result (text.new.items ≡ text.old.items ++ full_line count) }
 {
-    if count > MOST_SERVICES {
+    if count > SERVICE_LIMIT {
         text.extend_from_slice(
             b"refused full: a tree has at most 256 services: the last by name are left out\n",
         )
@@ -208,11 +210,12 @@ fn has_unread(entries: &[Entry]) -> bool
     entries.iter().any(|entry| entry.config.is_none())
 }
 
-// Whether svscan would leave out one of the entries at least: its directory could not be read, or there are more than 256 services.
+// Whether svscan would leave out one of the entries at least: its directory could not be read, or
+// there are more than 256 services.
 fn is_refused(entries: &[Entry]) -> bool
     ensures { result ≡ is_refused entries.now }
 {
-    has_unread(entries) || usable_count(entries) > MOST_SERVICES
+    has_unread(entries) || usable_count(entries) > SERVICE_LIMIT
 }
 
 // Whether something is wrong: svscan would leave out an entry, or something is noted.
@@ -222,14 +225,15 @@ fn is_wrong(notes: &[Noted], entries: &[Entry]) -> bool
     is_refused(entries) || !notes.is_empty()
 }
 
-/// What svscan would do with these entries. `remarks` say why directories can't be used, `notes` what is noted of the others. Page
-/// `servicedir`; what is noted, and the lines, are chosen here. The error says that memory was refused.
+/// What svscan would do with these entries. `remarks` say why directories can't be used, `notes`
+/// what is noted of the others. Page `servicedir`; what is noted, and the lines, are chosen here.
+/// The error says that memory was refused.
 pub fn checked_entries(
     alloc: Global,
     remarks: &[Remark],
     notes: &[Noted],
     entries: &[Entry],
-) -> Result<Checked, AllocError>
+) -> Result<CheckedEntries, AllocError>
     ensures text { IfOk result (λ checked. checked.text.items
         ≡ checked_text remarks.now notes.now entries.now) }
     ensures wrong { IfOk result (λ checked. checked.is_wrong ≡ is_wrong notes.now entries.now) }
@@ -239,16 +243,18 @@ pub fn checked_entries(
     // A last line where there are more services than a tree takes.
     push_full(&mut text, usable_count(entries))?;
     let is_wrong = is_wrong(notes, entries);
-    Ok(Checked { text, is_wrong })
+    Ok(CheckedEntries { text, is_wrong })
 }
 
-// The bad name, with its quotes, in a line `svscan: 'NAME' is no name of a service`; None for any other line.
+// The bad name, with its quotes, in a line `svscan: 'NAME' is no name of a service`; None for any
+// other line.
 fn bad_name_in(line: &[u8]) -> Option<&[u8]> {
     line.strip_prefix(b"svscan: ".as_slice())?
         .strip_suffix(b" is no name of a service".as_slice())
 }
 
-/// Adds a line for each bad name in `told`, which is what `read_listing` wrote on its `errors`. Returns whether there was one.
+/// Adds a line for each bad name in `told`, which is what `read_listing` wrote on its `errors`.
+/// Returns whether there was one.
 pub fn push_bad_names(text: &mut Vec<u8>, told: &[u8]) -> Result<bool, AllocError> {
     let mut is_there = false;
     for line in told.split(|byte| *byte == b'\n') {

@@ -6,8 +6,9 @@ use program_files::ProgramFault;
 use scan_directory::DirNote;
 use std::alloc::AllocError;
 
-/// Adds the sentence for a note of a service. `descriptor` is where the service tells its readiness, None where it doesn't: a `run` that tells it on
-/// 3 to 9 is started by `/bin/sh`. Page `servicedir`.
+/// Adds the sentence for a note of a service. `descriptor` is where the service tells its
+/// readiness, None where it doesn't: a `run` that tells it on 3 to 9 is started by `/bin/sh`. Page
+/// `servicedir`.
 pub fn push_note_sentence(
     text: &mut Vec<u8>,
     note: DirNote,
@@ -50,7 +51,8 @@ fn file_sentence(note: DirNote) -> &'static str
     }
 }
 
-// Adds the sentence about a program that can't be started, or not as it is written: what comes of it, and why.
+// Adds the sentence about a program that can't be started, or not as it is written: what comes of
+// it, and why.
 fn push_program(
     text: &mut Vec<u8>,
     program: &str,

@@ -11,7 +11,7 @@ use Rattle.svscan_core.specs.declared.entry.Entry.{Entry}
 use Rattle.svscan_core.specs.declared.event.Event.{Event}
 use Rattle.svscan_core.specs.declared.moves.ChangedService.{ChangedService}
 use Rattle.svscan_core.specs.declared.moves.Moves.{Moves}
-use Rattle.svscan_core.specs.declared.registry_plan.Answer.{Answer}
+use Rattle.svscan_core.specs.declared.registry_plan.RegistryAnswer.{RegistryAnswer}
 use Rattle.svscan_core.specs.declared.scan.Scanning.{Scanning}
 use Rattle.svscan_core.specs.Deaths.{DeathOf, deaths_after, deaths_given, AllTallied, KeepTallied}
 use Rattle.svscan_core.specs.Moves.{moment_of, services_after}
@@ -159,7 +159,7 @@ fired_sound now next services touched fired s g =
     }
 
 -- a step that is made at once
-pub made_at_once : {A : Type 0} (work : Work) (now : ℕ) (old new : Table) (p : RegistryPrepared) (answer : Answer A) → new ≡ table_of p
+pub made_at_once : {A : Type 0} (work : Work) (now : ℕ) (old new : Table) (p : RegistryPrepared) (answer : RegistryAnswer A) → new ≡ table_of p
     → answer.events.items ≡ p.events → answer.orders.items ≡ p.orders → answer.dropped.items ≡ p.dropped → answer.listed.items ≡ p.listed
     → IsWorkOf work now old p → WorkIsMade work now old new answer
 made_at_once work now old new p answer is e o d l done = record {

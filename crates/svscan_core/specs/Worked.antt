@@ -8,7 +8,7 @@ use Rattle.s6_events.specs.declared.moment.Moment.{Moment}
 use Rattle.supervise_core.specs.Chart.{fire_move}
 use Rattle.supervise_core.specs.Service.{Supervised}
 use Rattle.svscan_core.specs.declared.event.Event.{Event}
-use Rattle.svscan_core.specs.declared.registry_plan.Answer.{Answer}
+use Rattle.svscan_core.specs.declared.registry_plan.RegistryAnswer.{RegistryAnswer}
 use Rattle.svscan_core.specs.Deaths.{DeathOf, deaths_given, KeepTallied}
 use Rattle.svscan_core.specs.Moves.{moment_of, services_after}
 use Rattle.svscan_core.specs.Moving.{StepSoFar, GoOnAgreeing, TimersGoOn}
@@ -61,7 +61,7 @@ IsStepOf work now old new = LeavesAndGives now old (step_result work now (charts
     (deaths_given work now (services_after (fire_move now) (charts_of old.services))) new
 
 -- the work was done at once: the table and the answer have what it leaves and gives; and the history and the tallies go on to agree
-pub record WorkIsMade {A : Type 0} (work : Work) (now : ℕ) (old new : Table) (answer : Answer A) : Type 0 where
+pub record WorkIsMade {A : Type 0} (work : Work) (now : ℕ) (old new : Table) (answer : RegistryAnswer A) : Type 0 where
   pub services : charts_of new.services ≡ (work_on work now old).services
   pub next_sid : new.next_sid ≡ (work_on work now old).next_sid
   pub events : answer.events.items ≡ (work_on work now old).events

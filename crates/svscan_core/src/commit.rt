@@ -11,7 +11,8 @@ use s6_events::Name;
 use std::alloc::Allocator;
 use supervise_core::Service;
 
-// Gives the service at each of these places its new state and status (`standing`), and adds the death that it reported, if any, to its last deaths.
+// Gives the service at each of these places its new state and status (`standing`), and adds the
+// death that it reported, if any, to its last deaths.
 fn adopt_all<A: Allocator + Copy>(slots: &mut Slots<A>, touched: &[ChangedService])
     requires { KeepNames slots.old.services touched.now }
     ensures services { slots.new.services ≡ with_changes slots.old.services touched.now }
@@ -32,8 +33,9 @@ fn remove_all<A: Allocator + Copy>(slots: &mut Slots<A>, names: &[Name])
     }
 }
 
-/// Makes the step that was worked out: the touched services become what they are to be, the dropped ones leave, and the added ones go
-/// last. No memory is taken, for room was made before. `added` is empty then, and keeps its memory.
+/// Makes the step that was worked out: the touched services become what they are to be, the dropped
+/// ones leave, and the added ones go last. No memory is taken, for room was made before. `added` is
+/// empty then, and keeps its memory.
 pub fn commit_changes<A: Allocator + Copy>(
     slots: &mut Slots<A>,
     touched: &[ChangedService],

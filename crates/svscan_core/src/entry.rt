@@ -2,8 +2,9 @@
 use s6_events::{Name, Sid};
 use servicedir::Config;
 
-/// A name that a look at the scan directory found, and what the files of its directory said; None where the directory is there and
-/// couldn't be read. Page `s6-svscan`; that a directory may be there and not be read is chosen here.
+/// A name that a look at the scan directory found, and what the files of its directory said; None
+/// where the directory is there and couldn't be read. Page `s6-svscan`; that a directory may be
+/// there and not be read is chosen here.
 #[derive(Clone, Copy, PartialEq, Eq, Debug)]
 pub struct Entry {
     pub name: Name,

@@ -7,8 +7,8 @@ use std::alloc::Allocator;
 use std::marker::Model;
 use supervise_core::ServiceImage;
 
-/// The services of a registry as plain data, in rising serial, and the serial of the next one. A clause sees it as what the registry
-/// shows.
+/// The services of a registry as plain data, in rising serial, and the serial of the next one. A
+/// clause sees it as what the registry shows.
 #[derive(Drop)]
 pub struct RegistryImage<A: Allocator> {
     pub services: Vec<ServiceImage<A>, A>,

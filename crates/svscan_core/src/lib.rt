@@ -1,4 +1,5 @@
-//! The services of a scan directory: what a listing, a report, letters and a command to all of them make of the table.
+//! The services of a scan directory: what a listing, a report, letters and a command to all of them
+//! make of the table.
 #![tactic(auto)]
 
 mod commit;
@@ -26,5 +27,5 @@ pub use limits::{ORDER_LIMIT, SERVICE_LIMIT};
 pub use listing::has_repeats;
 pub use nuke_and_terminate::closing_after;
 pub use registry::Registry;
-pub use registry_plan::{Answer, RegistryPlan};
+pub use registry_plan::{RegistryAnswer, RegistryPlan};
 pub use work::ServiceWork;

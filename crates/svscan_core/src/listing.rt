@@ -1,4 +1,5 @@
-//! A listing of the scan directory: whether it repeats a name, and its entries in the order of their names' bytes.
+//! A listing of the scan directory: whether it repeats a name, and its entries in the order of
+//! their names' bytes.
 ghost use Rattle.std.specs.Prelude.{◌≡◌, IfOk, false};
 ghost use Rattle.svscan_core.specs.Listing.{names_in, has_entry, listed_config, in_byte_order};
 ghost use Rattle.svscan_core.specs.Names.{repeats_name};
@@ -11,7 +12,8 @@ use std::alloc::{AllocError, Allocator};
 use std::collections::{BTreeMap, HashSet};
 use std::marker::Model;
 
-/// A listing in the order of its names' bytes: each name with the configuration that was read of its directory.
+/// A listing in the order of its names' bytes: each name with the configuration that was read of
+/// its directory.
 #[derive(Drop)]
 pub struct SortedListing<A: Allocator> {
     found: BTreeMap<Name, Option<Config>, A>,
@@ -36,8 +38,8 @@ impl<A: Allocator + Copy> SortedListing<A> {
         self.found.contains_key(name)
     }
 
-    /// The configuration that was read of the directory of the name; None where the name is not listed, or its directory couldn't be
-    /// read.
+    /// The configuration that was read of the directory of the name; None where the name is not
+    /// listed, or its directory couldn't be read.
     pub fn config_of(&self, name: &Name) -> Option<Config>
         ensures { result ≡ listed_config self.now name.now }
     {
@@ -55,7 +57,8 @@ impl<A: Allocator + Copy> SortedListing<A> {
     }
 }
 
-/// Sorts a listing, in which no name stands twice: each name goes to its place in the order of bytes.
+/// Sorts a listing, in which no name stands twice: each name goes to its place in the order of
+/// bytes.
 pub fn sort_listing<A: Allocator + Copy>(
     alloc: A,
     listing: &[Entry],

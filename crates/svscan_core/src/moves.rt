@@ -1,4 +1,5 @@
-//! The services that a step has changed so far (`touched`), and what it has given: `events`, which are marks of services, and `orders`.
+//! The services that a step has changed so far (`touched`), and what it has given: `events`, which
+//! are marks of services, and `orders`.
 ghost use Rattle.std.specs.Prelude.{◌≡◌, ◌+◌, ◌<◌, ◌≤◌, ◌^◌, ◌*◌, ◌++◌, ◌∷◌, [], map, length, IfOk, OnOk, Some, slice_get, option_map};
 ghost use Rattle.supervise_core.specs.Service.{service_view};
 ghost use Rattle.supervise_core.specs.declared.chart_state.ChartState.{ChartState};
@@ -32,8 +33,9 @@ pub struct ChangedService {
     pub death: Option<(At, Exit)>,
 }
 
-/// The services that a step changes, and what it gives. The lists keep their memory from step to step. What a change of one service
-/// gives is written into an `Out` that the caller hands in, since it is large and a step is moved about.
+/// The services that a step changes, and what it gives. The lists keep their memory from step to
+/// step. What a change of one service gives is written into an `Out` that the caller passes in,
+/// because that is large and `Moves` gets moved.
 #[derive(Drop)]
 pub struct Moves<A: Allocator> {
     pub touched: Vec<ChangedService, A>,
@@ -41,7 +43,8 @@ pub struct Moves<A: Allocator> {
     pub orders: Vec<Order, A>,
 }
 
-/// The service at a place (its state and its status), as the step has it so far: after the last change of it, if it was changed.
+/// The service at a place (its state and its status), as the step has it so far: after the last
+/// change of it, if it was changed.
 pub fn standing_at<'a, A: Allocator + Copy>(
     slots: &'a Slots<A>,
     touched: &'a [ChangedService],
@@ -59,8 +62,8 @@ pub fn standing_at<'a, A: Allocator + Copy>(
     Some(standing)
 }
 
-// The service at a place, as the step has it so far. Only the first `before` changes are looked at: those behind them are known to be of other
-// services.
+// The service at a place, as the step has it so far. Only the first `before` changes are looked at:
+// those behind them are known to be of other services.
 fn standing_before<'a, A: Allocator + Copy>(
     slots: &'a Slots<A>,
     touched: &'a [ChangedService],
@@ -128,7 +131,8 @@ impl<A: Allocator + Copy> Moves<A> {
         add_events(&mut self.events, sid, out.events.as_slice())
     }
 
-    // Notes how a service changes, and adds the marks and the orders that this gives, which lie in `out`.
+    // Notes how a service changes, and adds the marks and the orders that this gives, which lie in
+    // `out`.
     fn touch(&mut self, changed: &ChangedService, out: &Out) -> Result<(), NoMemory>
         ensures touched { OnOk result
             (self.new.touched.items ≡ self.old.touched.items ++ changed.now ∷ []) }
@@ -152,8 +156,9 @@ impl<A: Allocator + Copy> Moves<A> {
         Ok(())
     }
 
-    // Applies the visit (what each service in turn takes: its timer, a command to all, or a look at its directory) to the service at this place,
-    // unless it would change nothing. Of the changes so far, those from `before` on are of other services.
+    // Applies the visit (what each service in turn takes: its timer, a command to all, or a look at
+    // its directory) to the service at this place, unless it would change nothing. Of the changes
+    // so far, those from `before` on are of other services.
     fn visit_at<'a>(
         &mut self,
         slots: &'a Slots<A>,
@@ -194,13 +199,15 @@ impl<A: Allocator + Copy> Moves<A> {
             // A visit reports no death.
             death: None,
         };
-        // The visit is made to a copy of the service's state and status; `out` gets the marks and orders.
+        // The visit is made to a copy of the service's state and status; `out` gets the marks and
+        // orders.
         visit.make(&mut changed.standing, now, out);
         self.touch(&changed, out)?;
         Ok(())
     }
 
-    /// Applies the visit (what each service in turn takes: its timer, a command to all, or a look at its directory) to each service in turn.
+    /// Applies the visit (what each service in turn takes: its timer, a command to all, or a look
+    /// at its directory) to each service in turn.
     pub fn visit_all<'a>(
         &mut self,
         slots: &'a Slots<A>,
@@ -222,7 +229,8 @@ impl<A: Allocator + Copy> Moves<A> {
             → OnOk result (length self.new.orders.items
             ≤ length self.old.orders.items + length slots.now.services) }
     {
-        // No service is visited twice: the changes that this visit adds, from here on, are of services that it has done with.
+        // No service is visited twice: the changes that this visit adds, from here on, are of
+        // services that it has done with.
         let before = self.touched.len();
         for place in 0..slots.len() {
             self.visit_at(slots, visit, before, place, now, out)?;
@@ -230,8 +238,8 @@ impl<A: Allocator + Copy> Moves<A> {
         Ok(())
     }
 
-    /// The service of this serial takes the change, and no other one is looked at. Returns whether the change was a stale report; false
-    /// where no service has the serial.
+    /// The service of this serial takes the change, and no other one is looked at. Returns whether
+    /// the change was a stale report; false where no service has the serial.
     pub fn change_one(
         &mut self,
         slots: &Slots<A>,
@@ -262,7 +270,8 @@ impl<A: Allocator + Copy> Moves<A> {
         let Some(standing) = standing_at(slots, self.touched.as_slice(), place) else {
             return Ok(false);
         };
-        // The change is made to a copy of the service's state and status; the death that it reports is set below.
+        // The change is made to a copy of the service's state and status; the death that it reports
+        // is set below.
         let mut changed = ChangedService {
             place,
             standing: *standing,
@@ -271,7 +280,8 @@ impl<A: Allocator + Copy> Moves<A> {
         out.clear();
         changed.standing.change_onto(change, now, out);
         let stale = out.stale;
-        // The death that the change reports, if it does and was not stale, for the service's tally of deaths.
+        // The death that the change reports, if it does and was not stale, for the service's tally
+        // of deaths.
         changed.death = change.counted_death(stale, now);
         self.touch(&changed, out)?;
         Ok(stale)

@@ -1,4 +1,5 @@
-//! The two commands to all services: nuke tells each inactive one to leave, terminate tells every one.
+//! The two commands to all services: nuke tells each inactive one to leave, terminate tells every
+//! one.
 ghost use Rattle.std.specs.Prelude.{◌≡◌, ◌+◌, ◌<◌, ◌≤◌, ◌^◌, length};
 ghost use Rattle.supervise_core.specs.Chart.{control_move};
 ghost use Rattle.supervise_core.specs.MatchesMove.{MatchesMove};
@@ -7,7 +8,7 @@ ghost use Rattle.svscan_core.specs.Work.{closing_after, leave_letters, nuke_move
 ghost use Rattle.svscan_core.specs.Work.Work.{command};
 
 use super::entry::ScanOrder;
-use super::visit::take;
+use super::visit::make_change;
 use arrayvec::ArrayVec;
 use control_letters::{ControlLetter, Letters};
 use s6_events::At;
@@ -24,7 +25,7 @@ fn leaving_letters() -> Letters
 }
 
 // Tells the service to go down, and its supervisor to end: by letters, as a user would.
-fn leave(standing: &mut ServiceState, now: At, out: &mut Out)
+fn tell_to_leave(standing: &mut ServiceState, now: At, out: &mut Out)
     requires { standing.old.chart.generation + 1 < 2 ^ 64 }
     ensures gives { MatchesMove (control_move leave_letters now standing.old.chart)
         standing.new.chart out.new }
@@ -33,7 +34,7 @@ fn leave(standing: &mut ServiceState, now: At, out: &mut Out)
     ensures name { standing.new.chart.name ≡ standing.old.chart.name }
     ensures few { length out.new.orders.items ≤ 2 }
 {
-    take(standing, &Change::Control(leaving_letters()), now, out);
+    make_change(standing, &Change::Control(leaving_letters()), now, out);
 }
 
 /// Tells the service to leave, if it is inactive. Page `s6-svscanctl`, `-n`.
@@ -49,11 +50,12 @@ pub fn nuke(standing: &mut ServiceState, now: At, out: &mut Out)
         // It gives nothing, while `out` may still hold what another service gave.
         out.clear();
     } else {
-        leave(standing, now, out);
+        tell_to_leave(standing, now, out);
     }
 }
 
-/// Whether the tree is closing once this command is done: terminate closes it, for good. Page `s6-svscanctl`, `-t`.
+/// Whether the tree is closing once this command is done: terminate closes it, for good. Page
+/// `s6-svscanctl`, `-t`.
 pub fn closing_after(order: ScanOrder, closing: bool) -> bool
     ensures { result ≡ closing_after (command order) closing }
 {
@@ -73,5 +75,5 @@ pub fn terminate(standing: &mut ServiceState, now: At, out: &mut Out)
     ensures few { length out.new.orders.items ≤ 2 }
 {
     standing.set_active(false, now);
-    leave(standing, now, out);
+    tell_to_leave(standing, now, out);
 }

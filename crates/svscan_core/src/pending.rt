@@ -24,8 +24,8 @@ use s6_events::{At, NoMemory, Sid};
 use std::alloc::Allocator;
 use supervise_core::{ChartState, Out};
 
-/// A step that is worked out before anything is changed: how services change, which leave and which come, and what is answered.
-/// The lists keep their memory from step to step.
+/// A step that is worked out before anything is changed: how services change, which leave and which
+/// come, and what is answered. The lists keep their memory from step to step.
 #[derive(Drop)]
 pub struct Pending<A: Allocator> {
     pub moves: Moves<A>,
@@ -36,7 +36,8 @@ pub struct Pending<A: Allocator> {
     pub timers: Vec<TimerChange, A>,
 }
 
-// The moment at which a timer is due; None where there is no timer, or its moment is past the greatest one and never comes.
+// The moment at which a timer is due; None where there is no timer, or its moment is past the
+// greatest one and never comes.
 fn reachable(timer: Option<u64>) -> Option<At>
     ensures { result ≡ in_reach timer }
 {
@@ -67,7 +68,8 @@ fn is_blank<A: Allocator + Copy>(moves: &Moves<A>, scan: &Scanning<A>) -> bool
     moves.touched.is_empty() && scan.dropped_sids.is_empty() && scan.added.is_empty()
 }
 
-// Lists what the step does to the timers: first those of the services that it changes, then of those that leave and of those that come.
+// Lists what the step does to the timers: first those of the services that it changes, then of
+// those that leave and of those that come.
 fn list_timers<A: Allocator + Copy>(
     moves: &Moves<A>,
     scan: &Scanning<A>,
@@ -99,16 +101,15 @@ impl<A: Allocator + Copy> Pending<A> {
         ensures { IsBlank next_sid result }
     {
         Pending {
-            // How services change, with the marks and orders that this gives; and below, which services a scan drops and adds.
             moves: Moves::new(alloc),
             scan: Scanning::new(alloc, next_sid),
             stale: false,
-            // What the step does to the timers of services.
             timers: Vec::new(alloc),
         }
     }
 
-    /// Empties the lists, and keeps their memory, for the next step. The next new service gets the serial `next_sid`.
+    /// Empties the lists, and keeps their memory, for the next step. The next new service gets the
+    /// serial `next_sid`.
     pub fn clear(&mut self, next_sid: u64)
         ensures { IsBlank next_sid self.new }
     {
@@ -118,7 +119,8 @@ impl<A: Allocator + Copy> Pending<A> {
         self.timers.clear();
     }
 
-    // Works out the work on the services as the step has them so far: after the due timers, if these went off.
+    // Works out the work on the services as the step has them so far: after the due timers, if
+    // these went off.
     fn do_work(
         &mut self,
         slots: &Slots<A>,
@@ -145,7 +147,8 @@ impl<A: Allocator + Copy> Pending<A> {
         match work {
             ServiceWork::Nothing => Ok(()),
             ServiceWork::Change(sid, change) => {
-                // Only a report can be stale: one of another run than the present one, which is refused.
+                // Only a report can be stale: one of another run than the present one, which is
+                // refused.
                 self.stale = self.moves.change_one(slots, *sid, change, now, out)?;
                 Ok(())
             }
@@ -161,7 +164,8 @@ impl<A: Allocator + Copy> Pending<A> {
         }
     }
 
-    /// Works out the work alone: no timer goes off. Nothing is changed yet: what is to be changed and given is noted here.
+    /// Works out the work alone: no timer goes off. Nothing is changed yet: what is to be changed
+    /// and given is noted here.
     pub fn work_alone(
         &mut self,
         slots: &Slots<A>,
@@ -185,8 +189,9 @@ impl<A: Allocator + Copy> Pending<A> {
         Ok(())
     }
 
-    /// Works out the whole step: the due timers first, and then the work. Nothing is changed yet: what is to be changed and given is noted here.
-    /// `due` has the serials of the services whose timers are due.
+    /// Works out the whole step: the due timers first, and then the work. Nothing is changed yet:
+    /// what is to be changed and given is noted here. `due` has the serials of the services whose
+    /// timers are due.
     pub fn work_out(
         &mut self,
         slots: &Slots<A>,
@@ -217,8 +222,8 @@ impl<A: Allocator + Copy> Pending<A> {
     }
 }
 
-// The timer of each service goes off, if it is due, in rising serial; `due` has the serials of these services. Where it is empty, no service is
-// looked at.
+// The timer of each service goes off, if it is due, in rising serial; `due` has the serials of
+// these services. Where it is empty, no service is looked at.
 fn fire_due<A: Allocator + Copy>(
     slots: &Slots<A>,
     moves: &mut Moves<A>,

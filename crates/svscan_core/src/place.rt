@@ -22,8 +22,9 @@ fn is_at<A: Allocator + Copy>(slots: &Slots<A>, place: usize, sid: Sid) -> bool
     service.sid() == sid
 }
 
-/// The place of the service of this serial; None where no service has it. Until a service leaves, each serial is one above its place, and
-/// is looked for there first. Serials rise with the places, so that a search by halves finds it elsewhere.
+/// The place of the service of this serial; None where no service has it. Until a service leaves,
+/// each serial is one above its place, and is looked for there first. Serials rise with the places,
+/// so that a search by halves finds it elsewhere.
 pub fn place_of<A: Allocator + Copy>(slots: &Slots<A>, sid: Sid) -> Option<usize>
     requires order { is_rising (serials_of (charts_of slots.now.services)) ≡ true }
     ensures bound { IfSome result (λ p. p < length slots.now.services) }

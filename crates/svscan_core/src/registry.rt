@@ -1,4 +1,5 @@
-//! The table of services (the registry): a step is prepared, which changes nothing that is shown, then committed, which takes no memory.
+//! The table of services (the registry): a step is prepared, which changes nothing that is shown,
+//! then committed, which takes no memory.
 ghost use Rattle.std.specs.Prelude.{◌≡◌, ◌==◌, ◌+◌, ◌<◌, ◌≤◌, ◌^◌, ◌++◌, [], List, map, find, length, slice_get, bytes_eq, is_some, option_map, IfSome, IfNone, IfOk, IsOk, OnOk, OnErr, false};
 ghost use Rattle.std.specs.List.{list_any};
 ghost use Rattle.s6_events.specs.Clock.{clock_of};
@@ -24,7 +25,7 @@ use super::entry::{Entry, Listed, ScanOrder};
 use super::event::Event;
 use super::image::{RegistryImage, images_of};
 use super::pending::Pending;
-use super::registry_plan::{Answer, RegistryPlan};
+use super::registry_plan::{RegistryAnswer, RegistryPlan};
 use super::slots::Slots;
 use super::table::{self, find_sid, nth_sid};
 use super::work::ServiceWork;
@@ -34,9 +35,11 @@ use std::alloc::Allocator;
 use std::marker::Model;
 use supervise_core::{Change, Out, Service, ServiceState};
 
-/// The services of a scan directory, at most `SERVICE_LIMIT`, in rising serial. A step is worked out first (`prepare`), which changes
-/// nothing that is shown, and then made (`commit`), which takes no memory; or one thing alone is done at once (`scan`, `control`,
-/// `change`). The step that was worked out last lies in the registry, in memory that is kept from step to step. Page `s6-svscan`.
+/// The services of a scan directory, at most `SERVICE_LIMIT`, in rising serial. A step is worked
+/// out first (`prepare`), which changes nothing that is shown, and then made (`commit`), which
+/// takes no memory; or one thing alone is done at once (`scan`, `control`, `change`). The step that
+/// was worked out last lies in the registry, in memory that is kept from step to step. Page
+/// `s6-svscan`.
 #[derive(Drop)]
 pub struct Registry<A: Allocator> {
     slots: Slots<A>,
@@ -44,9 +47,11 @@ pub struct Registry<A: Allocator> {
     next_sid: u64,
     // The step that was worked out last.
     pending: Pending<A>,
-    // Counts the steps that were worked out, modulo 2^64. The plan of the last one has this as its number.
+    // Counts the steps that were worked out, modulo 2^64. The plan of the last one has this as its
+    // number.
     number: u64,
-    // The marks and orders of one service's change, while a step is worked out. It is kept here since it is large.
+    // The marks and orders of one service's change, while a step is worked out. It is kept here
+    // since it is large.
     out: Out,
 }
 
@@ -70,16 +75,14 @@ impl<A: Allocator + Copy> Registry<A> {
         Registry {
             slots: Slots::new(alloc),
             next_sid: 1,
-            // The step that was worked out last, and how many were: none.
             pending: Pending::new(alloc, 1),
             number: 0,
-            // Where the marks and orders of one service's change lie while a step is worked out.
             out: Out::new(),
         }
     }
 
-    /// How many services there are: at most `SERVICE_LIMIT`. No two of them have the same name, and their serials rise and are below the
-    /// next one.
+    /// How many services there are: at most `SERVICE_LIMIT`. No two of them have the same name, and
+    /// their serials rise and are below the next one.
     pub fn len(&self) -> usize
         ensures count { result ≡ length self.now.shown.services }
         ensures sound { IsSound self.now.shown.next_sid (charts_of self.now.shown.services) }
@@ -87,7 +90,8 @@ impl<A: Allocator + Copy> Registry<A> {
         self.slots.len()
     }
 
-    /// The serial of the next service that is added. A caller can test by it what `prepare` and `scan` require of that serial.
+    /// The serial of the next service that is added. A caller can test by it what `prepare` and
+    /// `scan` require of that serial.
     pub fn next_sid(&self) -> Sid
         ensures { result ≡ self.now.shown.next_sid }
     {
@@ -138,7 +142,8 @@ impl<A: Allocator + Copy> Registry<A> {
         self.slots.find(&name)
     }
 
-    /// All services as plain data, and the serial of the next one. `NoMemory` where memory is refused.
+    /// All services as plain data, and the serial of the next one. `NoMemory` where memory is
+    /// refused.
     pub fn image(&self, alloc: A) -> Result<RegistryImage<A>, NoMemory>
         ensures { IfOk result (λ image. image ≡ self.now.shown) }
     {
@@ -149,8 +154,9 @@ impl<A: Allocator + Copy> Registry<A> {
         })
     }
 
-    /// What the service of this name would be if all due timers went off now; None where no service has the name. Nothing is changed. Each
-    /// history that agrees with all services agrees with this one too, once the marks of all these timers have joined it.
+    /// What the service of this name would be if all due timers went off now; None where no service
+    /// has the name. Nothing is changed. Each history that agrees with all services agrees with
+    /// this one too, once the marks of all these timers have joined it.
     pub fn after_timers(&self, name: Name, now: At) -> Option<ServiceState>
         requires { HaveGenerations 1 (charts_of self.now.shown.services) }
         ensures chart { option_map (λ s. s.chart) result
@@ -165,8 +171,8 @@ impl<A: Allocator + Copy> Registry<A> {
         table::after_timers(&self.slots, &name, now)
     }
 
-    /// The service of this serial takes a change at once, and no other one does. None where no service has the serial: nothing changes
-    /// then.
+    /// The service of this serial takes a change at once, and no other one does. None where no
+    /// service has the serial: nothing changes then.
     pub fn change(&mut self, sid: Sid, change: &Change, now: At) -> Option<Out>
         requires { HaveGenerations 1 (charts_of self.old.shown.services) }
         ensures takes { TakesChange sid change.now now self.old.shown.services
@@ -181,10 +187,11 @@ impl<A: Allocator + Copy> Registry<A> {
         table::change(&mut self.slots, sid, change, now)
     }
 
-    /// Works out a step: each service whose timer is due takes its rule, and then the work is done. `due` has the serials of the
-    /// services whose timers are due. Nothing that is shown changes; the step that was worked out before is forgotten. `commit` makes this
-    /// one, unless something that is shown has changed since. `NoMemory` where memory is refused; never where no timer is due and no work
-    /// is asked.
+    /// Works out a step: each service whose timer is due takes its rule, and then the work is done.
+    /// `due` has the serials of the services whose timers are due. Nothing that is shown changes;
+    /// the step that was worked out before is forgotten. `commit` makes this one, unless something
+    /// that is shown has changed since. `NoMemory` where memory is refused; never where no timer is
+    /// due and no work is asked.
     pub fn prepare(
         &mut self,
         due: &[Sid],
@@ -210,7 +217,8 @@ impl<A: Allocator + Copy> Registry<A> {
             .work_out(&self.slots, self.next_sid, due, work, now, out)?;
         // Room for the services that the step adds, so that `commit` takes no memory.
         self.slots.reserve(self.pending.scan.added.len())?;
-        // The plan that is answered only names this step, by a number; the step itself stays in the registry.
+        // The plan that is answered only names this step, by a number; the step itself stays in the
+        // registry.
         self.number = self.number.wrapping_add(1);
         Ok(RegistryPlan::of(self.number))
     }
@@ -229,7 +237,8 @@ impl<A: Allocator + Copy> Registry<A> {
         self.pending.moves.orders.as_slice()
     }
 
-    /// Whether this step is a report that was stale: of another run than the present one, or not awaited. Then it changes nothing.
+    /// Whether this step is a report that was stale: of another run than the present one, or not
+    /// awaited. Then it changes nothing.
     pub fn is_stale(&self) -> bool
         ensures { result ≡ self.now.planned.stale }
     {
@@ -243,15 +252,16 @@ impl<A: Allocator + Copy> Registry<A> {
         self.pending.scan.dropped_sids.as_slice()
     }
 
-    /// What becomes of each listed name for which there was no service, in the order of the names' bytes.
+    /// What becomes of each listed name for which there was no service, in the order of the names'
+    /// bytes.
     pub fn listed(&self) -> &[Listed]
         ensures { result.now ≡ self.now.planned.listed }
     {
         self.pending.scan.listed.as_slice()
     }
 
-    /// What a commit of this step does to the timers: deadlines that agree with the services before it agree with those after it, once
-    /// these changes are made.
+    /// What a commit of this step does to the timers: deadlines that agree with the services before
+    /// it agree with those after it, once these changes are made.
     pub fn timers(&self) -> &[TimerChange]
         ensures { result.now ≡ self.now.planned.timers }
     {
@@ -259,13 +269,13 @@ impl<A: Allocator + Copy> Registry<A> {
     }
 
     // What this step gives, copied. `NoMemory` where memory for that is refused.
-    fn answer(&self, alloc: A) -> Result<Answer<A>, NoMemory>
+    fn answer(&self, alloc: A) -> Result<RegistryAnswer<A>, NoMemory>
         ensures events { IfOk result (λ answer. answer.events.items ≡ self.now.planned.events) }
         ensures orders { IfOk result (λ answer. answer.orders.items ≡ self.now.planned.orders) }
         ensures dropped { IfOk result (λ answer. answer.dropped.items ≡ self.now.planned.dropped) }
         ensures listed { IfOk result (λ answer. answer.listed.items ≡ self.now.planned.listed) }
     {
-        Ok(Answer {
+        Ok(RegistryAnswer {
             events: self.events().to_vec(alloc)?,
             orders: self.orders().to_vec(alloc)?,
             dropped: self.dropped().to_vec(alloc)?,
@@ -273,7 +283,8 @@ impl<A: Allocator + Copy> Registry<A> {
         })
     }
 
-    /// Makes the step that was worked out last, whose plan this is; nothing that is shown has changed since. It takes no memory.
+    /// Makes the step that was worked out last, whose plan this is; nothing that is shown has
+    /// changed since. It takes no memory.
     pub fn commit(&mut self, plan: RegistryPlan)
         requires { IsPlanOf self.old plan }
         ensures { self.new.shown
@@ -291,7 +302,8 @@ impl<A: Allocator + Copy> Registry<A> {
         self.next_sid = scan.next_sid;
     }
 
-    // Works out a step that has this work alone: no timer goes off, and nothing that is shown changes yet.
+    // Works out a step that has this work alone: no timer goes off, and nothing that is shown
+    // changes yet.
     fn prepare_alone(&mut self, work: &ServiceWork, now: At) -> Result<RegistryPlan, NoMemory>
         requires listing { IsOrderly self.old.shown.next_sid (work_asked work.now) }
         requires generations { HaveGenerations 1 (charts_of self.old.shown.services) }
@@ -306,13 +318,15 @@ impl<A: Allocator + Copy> Registry<A> {
             .work_alone(&self.slots, self.next_sid, work, now, out)?;
         // Room for the services that the step adds, so that `commit` takes no memory.
         self.slots.reserve(self.pending.scan.added.len())?;
-        // The plan that is answered only names this step, by a number; the step itself stays in the registry.
+        // The plan that is answered only names this step, by a number; the step itself stays in the
+        // registry.
         self.number = self.number.wrapping_add(1);
         Ok(RegistryPlan::of(self.number))
     }
 
-    // Does the work at once: it is worked out (`prepare_alone`), what it gives is copied, and it is committed.
-    fn make(&mut self, work: &ServiceWork, now: At) -> Result<Answer<A>, NoMemory>
+    // Does the work at once: it is worked out (`prepare_alone`), what it gives is copied, and it is
+    // committed.
+    fn make(&mut self, work: &ServiceWork, now: At) -> Result<RegistryAnswer<A>, NoMemory>
         requires listing { IsOrderly self.old.shown.next_sid (work_asked work.now) }
         requires generations { HaveGenerations 1 (charts_of self.old.shown.services) }
         ensures made { IfOk result
@@ -325,11 +339,13 @@ impl<A: Allocator + Copy> Registry<A> {
         Ok(answer)
     }
 
-    /// Takes a listing of the scan directory, at once. Each service whose name is listed becomes active and takes the configuration that
-    /// was read; each other one becomes inactive. An inactive one whose supervisor has ended is dropped. Each name that has no service
-    /// gets one, in the order of the names' bytes, unless its directory couldn't be read or there are `SERVICE_LIMIT` services. The
-    /// listing has no name twice. `NoMemory` where memory is refused: nothing that is shown changes then. Page `s6-svscan`.
-    pub fn scan(&mut self, listing: &[Entry], now: At) -> Result<Answer<A>, NoMemory>
+    /// Takes a listing of the scan directory, at once. Each service whose name is listed becomes
+    /// active and takes the configuration that was read; each other one becomes inactive. An
+    /// inactive one whose supervisor has ended is dropped. Each name that has no service gets one,
+    /// in the order of the names' bytes, unless its directory couldn't be read or there are
+    /// `SERVICE_LIMIT` services. The listing has no name twice. `NoMemory` where memory is refused:
+    /// nothing that is shown changes then. Page `s6-svscan`.
+    pub fn scan(&mut self, listing: &[Entry], now: At) -> Result<RegistryAnswer<A>, NoMemory>
         requires listing { repeats_name (names_in listing.now) ≡ false }
         requires generations { HaveGenerations 1 (charts_of self.old.shown.services) }
         requires next { self.old.shown.next_sid + (service_limit + 1) < 2 ^ 64 }
@@ -341,10 +357,11 @@ impl<A: Allocator + Copy> Registry<A> {
         self.make(&work, now)
     }
 
-    /// Takes a command to all services, at once: nuke gives each inactive service the letters `x` and `d`; terminate makes each
-    /// service inactive and gives it both. `NoMemory` where memory is refused: nothing that is shown changes then. Page
-    /// `s6-svscanctl`; which letters they get is chosen here.
-    pub fn control(&mut self, order: ScanOrder, now: At) -> Result<Answer<A>, NoMemory>
+    /// Takes a command to all services, at once: nuke gives each inactive service the letters `x`
+    /// and `d`; terminate makes each service inactive and gives it both. `NoMemory` where memory is
+    /// refused: nothing that is shown changes then. Page `s6-svscanctl`; which letters they get is
+    /// chosen here.
+    pub fn control(&mut self, order: ScanOrder, now: At) -> Result<RegistryAnswer<A>, NoMemory>
         requires generations { HaveGenerations 1 (charts_of self.old.shown.services) }
         ensures made { IfOk result
             (WorkIsMade (command order) now self.old.shown self.new.shown) }

@@ -1,4 +1,5 @@
-//! A scan, worked out before anything is changed: what the listing makes of each service, which are dropped, which names are added.
+//! A scan, worked out before anything is changed: what the listing makes of each service, which are
+//! dropped, which names are added.
 ghost use Rattle.std.specs.Prelude.{◌≡◌, ℕ, ◌+◌, ◌<◌, ◌≤◌, ◌^◌, ◌++◌, ◌∷◌, [], List, filter, length, IfOk, OnOk, true, false};
 ghost use Rattle.supervise_core.specs.declared.chart_state.ChartState.{ChartState};
 ghost use Rattle.svscan_core.specs.Adding.{adding_of, state_behind, Grows};
@@ -25,7 +26,8 @@ use servicedir::Config;
 use std::alloc::Allocator;
 use supervise_core::{ChartState, Out, Phase, Service, ServiceState};
 
-/// What a listing drops and adds, before anything is changed. The lists keep their memory from step to step.
+/// What a listing drops and adds, before anything is changed. The lists keep their memory from step
+/// to step.
 #[derive(Drop)]
 pub struct Scanning<A: Allocator> {
     /// The names of the services that leave.
@@ -40,8 +42,8 @@ pub struct Scanning<A: Allocator> {
     pub next_sid: u64,
 }
 
-/// Makes a service active or inactive, as the listing has its name or not, and gives it the configuration that was read, if any. Page
-/// `s6-svscan`.
+/// Makes a service active or inactive, as the listing has its name or not, and gives it the
+/// configuration that was read, if any. Page `s6-svscan`.
 pub fn look_at<A: Allocator + Copy>(
     standing: &mut ServiceState,
     listing: &SortedListing<A>,
@@ -64,7 +66,8 @@ fn is_retained(chart: &ChartState) -> bool
     chart.active || chart.phase != Phase::Gone
 }
 
-/// Notes the services that leave, and returns how many stay. `touched` are the changes of the step so far. Page `s6-svscan`.
+/// Notes the services that leave, and returns how many stay. `touched` are the changes of the step
+/// so far. Page `s6-svscan`.
 pub fn plan_drops<A: Allocator + Copy>(
     slots: &Slots<A>,
     touched: &[ChangedService],
@@ -105,17 +108,16 @@ impl<A: Allocator + Copy> Scanning<A> {
         ensures next_sid { result.next_sid ≡ next_sid }
     {
         Scanning {
-            // Names of the services that leave, and their serials.
             dropped: Vec::new(alloc),
             dropped_sids: Vec::new(alloc),
-            // The new services, and what becomes of each listed name for which there is none.
             added: Vec::new(alloc),
             listed: Vec::new(alloc),
             next_sid,
         }
     }
 
-    /// Empties the lists, and keeps their memory, for the next scan. The next new service gets the serial `next_sid`.
+    /// Empties the lists, and keeps their memory, for the next scan. The next new service gets the
+    /// serial `next_sid`.
     pub fn clear(&mut self, next_sid: u64)
         ensures empty { IsEmptyScan self.new }
         ensures next_sid { self.new.next_sid ≡ next_sid }
@@ -175,8 +177,8 @@ impl<A: Allocator + Copy> Scanning<A> {
         Ok(())
     }
 
-    // Adds a service for a name that has none, unless its directory couldn't be read (`found` is None) or the limit is reached.
-    // `retained` services stay.
+    // Adds a service for a name that has none, unless its directory couldn't be read (`found` is
+    // None) or the limit is reached. `retained` services stay.
     fn add_new_name(
         &mut self,
         alloc: A,
@@ -209,7 +211,8 @@ impl<A: Allocator + Copy> Scanning<A> {
         self.add_service(alloc, moves, name, config, out)
     }
 
-    // Adds a service for a listed name, unless it has one, its directory couldn't be read, or the limit is reached. `retained` services stay.
+    // Adds a service for a listed name, unless it has one, its directory couldn't be read, or the
+    // limit is reached. `retained` services stay.
     fn add_name(
         &mut self,
         slots: &Slots<A>,
@@ -240,8 +243,8 @@ impl<A: Allocator + Copy> Scanning<A> {
         self.add_new_name(slots.allocator(), moves, retained, name, found, out)
     }
 
-    // Adds a service for each of these listed names that has none, as far as its directory could be read and the limit allows; `retained` services
-    // stay. Page `s6-svscan`.
+    // Adds a service for each of these listed names that has none, as far as its directory could be
+    // read and the limit allows; `retained` services stay. Page `s6-svscan`.
     fn add_names(
         &mut self,
         slots: &Slots<A>,
@@ -273,10 +276,11 @@ impl<A: Allocator + Copy> Scanning<A> {
     }
 }
 
-/// Works out what the listing does to the services as the step has them so far. Each is looked at; those whose directory and supervisor
-/// are both gone leave; and each listed name that has no service gets a new one, in the order of the names' bytes, unless its directory
-/// couldn't be read, while there are fewer than `SERVICE_LIMIT`. Nothing of it is done yet. `NoMemory` where memory for the plan is
-/// refused. Page `s6-svscan`.
+/// Works out what the listing does to the services as the step has them so far. Each is looked at;
+/// those whose directory and supervisor are both gone leave; and each listed name that has no
+/// service gets a new one, in the order of the names' bytes, unless its directory couldn't be read,
+/// while there are fewer than `SERVICE_LIMIT`. Nothing of it is done yet. `NoMemory` where memory
+/// for the plan is refused. Page `s6-svscan`.
 pub fn plan_scan<A: Allocator + Copy>(
     slots: &Slots<A>,
     moves: &mut Moves<A>,

@@ -14,8 +14,9 @@ use std::hash::{BuildHasherDefault, FoldHasher};
 use std::marker::Model;
 use supervise_core::{Service, ServiceState};
 
-/// The services, each in a slot of its own, and an index from their names to the slots, in the order in which they were added. A service
-/// keeps its slot; its place is where its name is in the index.
+/// The services, each in a slot of its own, and an index from their names to the slots, in the
+/// order in which they were added. A service keeps its slot; its place is where its name is in the
+/// index.
 #[derive(Drop)]
 pub struct Slots<A: Allocator> {
     slots: Slab<Service<A>, A>,
@@ -34,7 +35,8 @@ impl<A: Allocator> Model for Slots<A> {
     ghost invariant = { IsHeld };
 }
 
-// Gives the service in this slot this state and status, and adds the death to its tally, if there is one.
+// Gives the service in this slot this state and status, and adds the death to its tally, if there
+// is one.
 fn adopt_in<A: Allocator + Copy>(
     slots: &mut Slab<Service<A>, A>,
     slot: usize,
@@ -79,7 +81,8 @@ impl<A: Allocator + Copy> Slots<A> {
         self.index.len()
     }
 
-    /// The service at this place, in the order in which they were added. The index has at that place the number of its slot.
+    /// The service at this place, in the order in which they were added. The index has at that
+    /// place the number of its slot.
     pub fn nth(&self, place: usize) -> Option<&Service<A>>
         ensures { option_map (λ s. s.now) result ≡ slice_get self.now.services place }
     {
@@ -103,7 +106,8 @@ impl<A: Allocator + Copy> Slots<A> {
         self.index.contains_key(name)
     }
 
-    /// Gives the service at this place this state and status, and adds the death to its tally, if there is one. Its name stays.
+    /// Gives the service at this place this state and status, and adds the death to its tally, if
+    /// there is one. Its name stays.
     pub fn adopt(&mut self, place: usize, standing: &ServiceState, death: Option<(At, Exit)>)
         requires name { IsSomeAnd (slice_get self.old.services place)
             (λ s. s.chart.name ≡ standing.now.chart.name) }
@@ -119,7 +123,8 @@ impl<A: Allocator + Copy> Slots<A> {
         }
     }
 
-    /// Takes the service of this name, if there is one, out of the index and out of its slot; the others keep their order.
+    /// Takes the service of this name, if there is one, out of the index and out of its slot; the
+    /// others keep their order.
     pub fn remove(&mut self, name: Name)
         ensures services { self.new.services ≡ without_name self.old.services name }
         ensures room { self.old.room ≤ self.new.room }
@@ -131,7 +136,8 @@ impl<A: Allocator + Copy> Slots<A> {
         }
     }
 
-    /// Makes room for `count` more services. `NoMemory` where memory is refused; the services stay as they are.
+    /// Makes room for `count` more services. `NoMemory` where memory is refused; the services stay
+    /// as they are.
     pub fn reserve(&mut self, count: usize) -> Result<(), NoMemory>
         ensures services { self.new.services ≡ self.old.services }
         ensures room { OnOk result (count ≤ self.new.room) }
@@ -155,11 +161,13 @@ impl<A: Allocator + Copy> Slots<A> {
     {
         let name = service.chart().name;
         let slot = self.slots.insert_reserved(service);
-        // The name is new, so that no other slot had it; and there is room, so that no memory is asked for.
+        // The name is new, so that no other slot had it; and there is room, so that no memory is
+        // asked for.
         let _old = self.index.insert(name, slot).unwrap();
     }
 
-    /// Adds all of these as the last ones, in their order; there is room for them. `added` is empty then, and keeps its memory.
+    /// Adds all of these as the last ones, in their order; there is room for them. `added` is empty
+    /// then, and keeps its memory.
     pub fn add_all(&mut self, added: &mut Vec<Service<A>, A>)
         requires room { length added.old.items ≤ self.old.room }
         requires names { repeats_name (names_of (charts_of (self.old.services ++ added.old.items)))

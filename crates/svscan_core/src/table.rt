@@ -1,5 +1,5 @@
-//! Questions to the table of services (`slots`), and a change of one service in it. A place counts the services from 0, in the order in which they
-//! were added; a serial names a service for good.
+//! Questions to the table of services (`slots`), and a change of one service in it. A place counts
+//! the services from 0, in the order in which they were added; a serial names a service for good.
 ghost use Rattle.std.specs.Prelude.{◌≡◌, ◌+◌, ◌<◌, ◌^◌, ◌++◌, ◌==◌, List, map, find, bytes_eq, is_some, option_map, slice_get, IfSome, IfNone};
 ghost use Rattle.std.specs.List.{list_any};
 ghost use Rattle.s6_events.specs.Clock.{clock_of};
@@ -26,7 +26,8 @@ pub fn find_sid<A: Allocator + Copy>(slots: &Slots<A>, name: &Name) -> Option<Si
     Some(slots.find(name)?.sid())
 }
 
-/// The serial of the service at this place, in the order in which they were added; None past the last one.
+/// The serial of the service at this place, in the order in which they were added; None past the
+/// last one.
 pub fn nth_sid<A: Allocator + Copy>(slots: &Slots<A>, place: usize) -> Option<Sid>
     ensures { result ≡ option_map (λ c. c.sid) (slice_get (charts_of slots.now.services) place) }
 {
@@ -41,8 +42,9 @@ pub fn get<A: Allocator + Copy>(slots: &Slots<A>, sid: Sid) -> Option<&Service<A
     slots.nth(place_of(slots, sid)?)
 }
 
-/// The service of this serial takes a change. Returns what that gives; None where no service has the serial, and then every service
-/// stays as it is. No memory is taken. The changes are those of page `s6-supervise`.
+/// The service of this serial takes a change. Returns what that gives; None where no service has
+/// the serial, and then every service stays as it is. No memory is taken. The changes are those of
+/// page `s6-supervise`.
 pub fn change<A: Allocator + Copy>(
     slots: &mut Slots<A>,
     sid: Sid,
@@ -91,7 +93,8 @@ fn after_timer(standing: ServiceState, now: At) -> ServiceState
     }
 }
 
-/// What the service of this name would be if all due timers went off now; None where no service has the name. No memory is taken.
+/// What the service of this name would be if all due timers went off now; None where no service has
+/// the name. No memory is taken.
 pub fn after_timers<A: Allocator + Copy>(
     slots: &Slots<A>,
     name: &Name,

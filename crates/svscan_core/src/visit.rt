@@ -15,7 +15,8 @@ use s6_events::At;
 use std::alloc::Allocator;
 use supervise_core::{Change, Out, ServiceState};
 
-/// What each service in turn takes: the rule of its timer, a command to all services, or a look at its directory.
+/// What each service in turn takes: the rule of its timer, a command to all services, or a look at
+/// its directory.
 #[derive(Clone, Copy)]
 pub enum Visit<'a, A: Allocator> {
     /// Its timer goes off, if it is due.
@@ -26,8 +27,9 @@ pub enum Visit<'a, A: Allocator> {
     Look(&'a SortedListing<A>),
 }
 
-/// The service takes a change; `out` then has the marks and orders of that change, and nothing else.
-pub fn take(standing: &mut ServiceState, change: &Change, now: At, out: &mut Out)
+/// The service takes a change; `out` then has the marks and orders of that change, and nothing
+/// else.
+pub fn make_change(standing: &mut ServiceState, change: &Change, now: At, out: &mut Out)
     requires { standing.old.chart.generation + 1 < 2 ^ 64 }
     ensures gives { MatchesMove (changed_by change.now now standing.old.chart) standing.new.chart
         out.new }
@@ -49,12 +51,12 @@ fn fire_timer(standing: &mut ServiceState, now: At, out: &mut Out)
     ensures name { standing.new.chart.name ≡ standing.old.chart.name }
     ensures few { length out.new.orders.items ≤ 1 }
 {
-    take(standing, &Change::Fire, now, out);
+    make_change(standing, &Change::Fire, now, out);
 }
 
 impl<A: Allocator + Copy> Visit<'_, A> {
-    /// Whether the visit is known to change nothing in this service and to give nothing: its timer isn't due, or it is active, where nuke is only
-    /// for inactive ones.
+    /// Whether the visit is known to change nothing in this service and to give nothing: its timer
+    /// isn't due, or it is active, where nuke is only for inactive ones.
     pub fn passes(self, standing: &ServiceState, now: At) -> bool
         ensures { result ≡ true → visit_move self.entry now standing.now.chart
             ≡ no_move standing.now.chart }

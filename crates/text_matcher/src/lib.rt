@@ -1,4 +1,5 @@
-//! A regular expression, and a text that a matcher takes in (hears) letter by letter, to tell whether there is a match in it.
+//! A regular expression, and a text that a matcher takes in (hears) letter by letter, to tell
+//! whether there is a match in it.
 #![tactic(auto)]
 
 mod build_fault;

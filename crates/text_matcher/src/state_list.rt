@@ -1,4 +1,5 @@
-//! Lists of states of an automaton, each state once: a search for a match stands in several states at a time.
+//! Lists of states of an automaton, each state once: a search for a match stands in several states
+//! at a time.
 ghost use Rattle.std.specs.Prelude.{◌≡◌, ◌++◌, ◌∷◌, ◌⊎◌, [], ◌<◌, ◌≤◌, Contains, IfOk, length, slice_index};
 
 use regex_nfa::StateId;
@@ -26,7 +27,8 @@ impl Model for StateList {
 }
 
 impl StateList {
-    /// A list without states, with room for `count` ones: `states` has them in the order in which they were added, `marks` as a set.
+    /// A list without states, with room for `count` ones: `states` has them in the order in which
+    /// they were added, `marks` as a set.
     pub fn new(alloc: Global, count: usize) -> Result<StateList, AllocError>
         ensures { IfOk result (λ l. l ≡ record { items = []; count = count }) }
     {

@@ -13,15 +13,17 @@ use std::alloc::{AllocError, Global};
 use std::marker::Model;
 use std::mem;
 
-// What a letter costs at a state that leads on in two ways, where a state that reads a single range of bytes costs 1. Counted in instructions, a
-// letter takes 46 at a state that reads one range, 10 more for each further range, 45 at a choice and 37 at a group's end. Where the automaton has
-// an assertion these are 60, 10, 112 and 63, and an assertion takes 201.
+// What a letter costs at a state that leads on in two ways, where a state that reads a single range
+// of bytes costs 1. Counted in instructions, a letter takes 46 at a state that reads one range, 10
+// more for each further range, 45 at a choice and 37 at a group's end. Where the automaton has an
+// assertion these are 60, 10, 112 and 63, and an assertion takes 201.
 const CHOICE_COST: usize = 2;
 
 // What a letter costs at an assertion.
 const ASSERTION_COST: usize = 5;
 
-// How often a letter goes over each state of an automaton with an assertion: `has_match` can't add its states to `behind` then.
+// How often a letter goes over each state of an automaton with an assertion: `has_match` can't add
+// its states to `behind` then.
 const WALKS_WITH_ASSERTIONS: usize = 2;
 
 // For so many further ranges of bytes a state that reads several costs 1 more.
@@ -32,30 +34,37 @@ const RANGES_FOR_ONE: usize = 5;
 pub struct Limits {
     /// The most bytes of its tables, which the compiler may exceed by 24.
     pub bytes: usize,
-    /// The most that a letter below 128 may cost: one for each state in which a search of such letters may stand, but two for a choice of two
-    /// ways, five for an assertion, and for a set of bytes one more for each five of its ranges. All of it counts twice where there is an
+    /// The most that a letter below 128 may cost: one for each state in which a search of such
+    /// letters may stand, but two for a choice of two ways, five for an assertion, and for a set of
+    /// bytes one more for each five of its ranges. All of it counts twice where there is an
     /// assertion. The other states are never reached, however many there are.
     pub letter_cost: usize,
 }
 
-/// A regular expression of the crate `regex`, and a text of letters that it hears one by one, with all that a search of that text needs.
-/// A search comes behind a letter in the states to which that letter leads; it stands there in these, and in all to which edges that read
-/// no byte lead from them. A letter costs a look at each state of the automaton in which a search stands, however long the text is.
+/// A regular expression of the crate `regex`, and a text of letters that it hears one by one, with
+/// all that a search of that text needs. A search comes behind a letter in the states to which that
+/// letter leads; it stands there in these, and in all to which edges that read no byte lead from
+/// them. A letter costs a look at each state of the automaton in which a search stands, however
+/// long the text is.
 ///
 /// A clause sees it as the text of the expression, and the letters that it heard.
 pub struct TextMatcher {
     source: String,
     nfa: Nfa,
     heard: Vec<u8>,
-    // The states in which a search comes behind the last letter; where `is_standing`, all those in which it stands there.
+    // The states in which a search comes behind the last letter; where `is_standing`, all those in
+    // which it stands there.
     behind: StateList,
-    // Whether `behind` has all states in which a search stands, whatever comes: only without assertions, after `has_match`.
+    // Whether `behind` has all states in which a search stands, whatever comes: only without
+    // assertions, after `has_match`.
     is_standing: bool,
-    // Whether a match ended before the last letter; where `is_standing`, whether one ended before or behind it.
+    // Whether a match ended before the last letter; where `is_standing`, whether one ended before
+    // or behind it.
     has_matched: bool,
-    // A second list, whose states are of use within one call only. In `hear` it is for the states to which the letter leads. In
-    // `has_match`, for an automaton with assertions, `stand_beside` gathers in it the other states in which a search stands at the end:
-    // those to which edges lead that read no byte, some of which may be in `behind` too.
+    // A second list, whose states are of use within one call only. In `hear` it is for the states
+    // to which the letter leads. In `has_match`, for an automaton with assertions, `stand_beside`
+    // gathers in it the other states in which a search stands at the end: those to which edges lead
+    // that read no byte, some of which may be in `behind` too.
     spare: StateList,
     // Whether the automaton has an assertion, which may look at the next letter.
     has_assertions: bool,
@@ -88,8 +97,9 @@ impl Model for TextMatcher {
 }
 
 impl TextMatcher {
-    /// The matcher of this text, with the default options of `regex`; it has room for so many letters. Refused: the text is no expression,
-    /// nests too deep, or its automaton is larger than the limits say. NoMemory: memory was refused.
+    /// The matcher of this text, with the default options of `regex`; it has room for so many
+    /// letters. Refused: the text is no expression, nests too deep, or its automaton is larger than
+    /// the limits say. NoMemory: memory was refused.
     pub fn build(
         alloc: Global,
         text: &str,
@@ -105,7 +115,8 @@ impl TextMatcher {
         if letter_cost(&nfa, has_assertions) > limits.letter_cost {
             return Err(BuildFault::Refused);
         }
-        // Each list has room for all states, and `heard` for all letters, so that no letter takes memory later.
+        // Each list has room for all states, and `heard` for all letters, so that no letter takes
+        // memory later.
         let states = nfa.states.len();
         let mut behind = StateList::new(alloc, states)?;
         // Where a search begins that may skip letters before a match.
@@ -119,7 +130,8 @@ impl TextMatcher {
             nfa,
             heard,
             behind,
-            // So far `behind` has only the state where a search begins: those beside it are added before the first letter, or by `has_match`.
+            // So far `behind` has only the state where a search begins: those beside it are added
+            // before the first letter, or by `has_match`.
             is_standing: false,
             has_matched: false,
             spare,
@@ -154,7 +166,8 @@ impl TextMatcher {
         self.has_matched = false;
     }
 
-    /// Hears one letter more. An error where memory is refused, which is never while there is room: it heard nothing then.
+    /// Hears one letter more. An error where memory is refused, which is never while there is room:
+    /// it heard nothing then.
     pub fn hear(&mut self, letter: u8) -> Result<(), AllocError>
         requires { letter < 128 }
         ensures ok { OnOk result (self.new ≡ record self.old {
@@ -164,7 +177,8 @@ impl TextMatcher {
     {
         let place = self.heard.len();
         self.heard.push(letter)?;
-        // First the place before this letter: its assertions may look at the letter, which is why it was pushed before.
+        // First the place before this letter: its assertions may look at the letter, which is why
+        // it was pushed before.
         self.has_matched = stand_once(
             &self.nfa,
             &self.heard,
@@ -188,7 +202,8 @@ impl TextMatcher {
     {
         let end = self.heard.len();
         if self.has_assertions {
-            // `behind` and `has_matched` stay as they are, since an assertion may hold here only until the next letter comes.
+            // `behind` and `has_matched` stay as they are, since an assertion may hold here only
+            // until the next letter comes.
             return stand_beside(
                 &self.nfa,
                 &self.heard,
@@ -206,13 +221,15 @@ impl TextMatcher {
             self.is_standing,
             self.has_matched,
         );
-        // `stand_once` added to `behind` all other states in which the search stands here: the next call needn't.
+        // `stand_once` added to `behind` all other states in which the search stands here: the next
+        // call needn't.
         self.is_standing = true;
         self.has_matched
     }
 }
 
-// How much a letter below 128 costs at most, as `Limits` says. It has no clause: a limit of another size would only refuse other patterns.
+// How much a letter below 128 costs at most, as `Limits` says. It has no clause: a limit of another
+// size would only refuse other patterns.
 fn letter_cost(nfa: &Nfa, has_assertions: bool) -> usize {
     let mut cost: usize = 0;
     for state in &nfa.states {
@@ -237,7 +254,8 @@ fn state_cost(nfa: &Nfa, state: State) -> usize {
     }
 }
 
-// How much a state costs that reads so many ranges of bytes below 128: nothing where it reads none, since such a search never stands in it.
+// How much a state costs that reads so many ranges of bytes below 128: nothing where it reads none,
+// since such a search never stands in it.
 fn reading_cost(ranges: usize) -> usize {
     match ranges.checked_sub(1) {
         None => 0,
@@ -266,7 +284,8 @@ fn automaton_of(alloc: Global, text: &str, size_limit: usize) -> Result<Nfa, Bui
         Ok(parsed) => parsed,
         Err(error) => return Err(BuildFault::of_parser(error.kind)),
     };
-    // The parser gives a name, perhaps none, for each group; the compiler takes their number in 32 bits.
+    // The parser gives a name, perhaps none, for each group; the compiler takes their number in 32
+    // bits.
     let Ok(groups) = u32::try_from(names.len()) else {
         return Err(BuildFault::Refused);
     };

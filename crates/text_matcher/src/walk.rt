@@ -1,4 +1,5 @@
-//! How a search for a match walks through an automaton, over a text that comes letter by letter: in which states it stands behind each letter.
+//! How a search for a match walks through an automaton, over a text that comes letter by letter: in
+//! which states it stands behind each letter.
 ghost use Rattle.std.specs.Prelude.{◌≡◌, ◌++◌, ℕ, ◌+◌, ◌<◌, ◌≤◌, ◌⊎◌, Contains, Some, true, false, length, slice_index, vec_len};
 ghost use Rattle.regex_nfa.specs.Paths.{EmptyEdge};
 ghost use Rattle.regex_nfa.specs.Run.{state_of};
@@ -12,8 +13,9 @@ ghost use Rattle.text_matcher.specs.Walks.{AllStand, HasMatchState, HasNoAsserti
 use crate::state_list::StateList;
 use regex_nfa::{Nfa, State, StateId, holds};
 
-// Adds to `reached` the states to which edges that read no byte lead from this one. `at` is the place in the text, which assertions such as `^`
-// look at. Returns whether this state is one that says that there is a match.
+// Adds to `reached` the states to which edges that read no byte lead from this one. `at` is the
+// place in the text, which assertions such as `^` look at. Returns whether this state is one that
+// says that there is a match.
 #[inline(always)]
 fn follow(nfa: &Nfa, bytes: &[u8], at: usize, state: StateId, reached: &mut StateList) -> bool
     requires state { state < vec_len nfa.now.states }
@@ -46,8 +48,9 @@ fn follow(nfa: &Nfa, bytes: &[u8], at: usize, state: StateId, reached: &mut Stat
     false
 }
 
-// Adds to `reached`, one after the other, all states to which edges that read no byte lead from those in it, at place `at`. Returns whether a match
-// ended before (`has_matched`), or one of all these states says that there is one. States that are added are followed in turn.
+// Adds to `reached`, one after the other, all states to which edges that read no byte lead from
+// those in it, at place `at`. Returns whether a match ended before (`has_matched`), or one of all
+// these states says that there is one. States that are added are followed in turn.
 fn close(nfa: &Nfa, bytes: &[u8], at: usize, reached: &mut StateList, has_matched: bool) -> bool
     requires count { reached.old.count ≡ vec_len nfa.now.states }
     ensures count { reached.new.count ≡ reached.old.count }
@@ -73,8 +76,9 @@ fn close(nfa: &Nfa, bytes: &[u8], at: usize, reached: &mut StateList, has_matche
     is_found
 }
 
-// Fills `beside` with the states to which edges that read no byte lead from `states`, at place `at`: only those one edge away. Returns
-// whether a match ended before (`has_matched`), or one of `states` says that there is one.
+// Fills `beside` with the states to which edges that read no byte lead from `states`, at place
+// `at`: only those one edge away. Returns whether a match ended before (`has_matched`), or one of
+// `states` says that there is one.
 fn follow_all(
     nfa: &Nfa,
     bytes: &[u8],
@@ -105,8 +109,9 @@ fn follow_all(
     is_found
 }
 
-/// Fills `beside` with the other states in which a search stands at place `at`, where it comes there in those of `behind`: all to which edges lead
-/// that read no byte. `follow_all` goes one edge from `behind`, `close` goes on from there. Returns whether a match ended there or before.
+/// Fills `beside` with the other states in which a search stands at place `at`, where it comes
+/// there in those of `behind`: all to which edges lead that read no byte. `follow_all` goes one
+/// edge from `behind`, `close` goes on from there. Returns whether a match ended there or before.
 pub fn stand_beside(
     nfa: &Nfa,
     bytes: &[u8],
@@ -125,8 +130,9 @@ pub fn stand_beside(
     close(nfa, bytes, at, beside, is_found)
 }
 
-/// Adds to `states`, in which a search comes to place `at`, all others to which edges that read no byte lead from there; where `is_standing`, they
-/// are in it already. Returns whether a match ended there or before (`has_matched`).
+/// Adds to `states`, in which a search comes to place `at`, all others to which edges that read no
+/// byte lead from there; where `is_standing`, they are in it already. Returns whether a match ended
+/// there or before (`has_matched`).
 pub fn stand_once(
     nfa: &Nfa,
     bytes: &[u8],
@@ -180,7 +186,8 @@ fn read_from(nfa: &Nfa, byte: u8, state: StateId, behind: &mut StateList)
     }
 }
 
-/// Fills `behind` with the states to which this byte leads from those of `reached`: in these the search comes to the place behind the byte.
+/// Fills `behind` with the states to which this byte leads from those of `reached`: in these the
+/// search comes to the place behind the byte.
 pub fn read_over(nfa: &Nfa, byte: u8, reached: &StateList, behind: &mut StateList)
     requires reached { reached.now.count ≡ vec_len nfa.now.states }
     requires behind { behind.old.count ≡ vec_len nfa.now.states }

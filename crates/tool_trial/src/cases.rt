@@ -2,7 +2,7 @@
 use crate::counted::CountedText;
 use crate::table::TableServer;
 use crate::whole_requests::come_whole;
-use line_server::{SEAT_COUNT, Seats, Server, serve};
+use line_server::{ClientSlots, SLOT_COUNT, Server, serve};
 use s6_tools::{run_client, tool_named};
 use std::alloc::Global;
 use std::io::{Read, Write};
@@ -60,7 +60,7 @@ pub fn try_all<R: Net + Files + Processes + Threads + Wait + Clock + Sync>(
     rt: &R,
     alloc: Global,
     path: &str,
-    told: &mut Told,
+    told: &mut ToldCases,
 ) -> io::Result<()> {
     serve_and_try(rt, alloc, path, told)?;
     told.text.extend_from_slice(b"without a server: ")?;
@@ -77,17 +77,17 @@ pub fn try_all<R: Net + Files + Processes + Threads + Wait + Clock + Sync>(
 
 /// What came of the cases.
 #[derive(Drop)]
-pub struct Told {
+pub struct ToldCases {
     /// Each case, its status, and what it wrote to standard output and standard error.
     pub text: Vec<u8>,
     // How often what it wrote to one of them took more than one write.
     pieces: u64,
 }
 
-impl Told {
+impl ToldCases {
     /// Nothing was tried.
-    pub fn new(alloc: Global) -> Told {
-        Told {
+    pub fn new(alloc: Global) -> ToldCases {
+        ToldCases {
             text: Vec::new(alloc),
             pieces: 0,
         }
@@ -110,9 +110,9 @@ fn new_server<R: Net + Files>(
     alloc: Global,
     path: &str,
 ) -> io::Result<Server<TableServer>> {
-    let seats = Seats::new(alloc)?;
+    let slots = ClientSlots::new(alloc)?;
     let listener = UnixListener::bind(rt, path)?;
-    Ok(Server::new(alloc, listener, seats, TableServer::new())?)
+    Ok(Server::new(alloc, listener, slots, TableServer::new())?)
 }
 
 // The cases beside a server, which is gone afterwards.
@@ -120,7 +120,7 @@ fn serve_and_try<R: Net + Files + Processes + Threads + Wait + Clock + Sync>(
     rt: &R,
     alloc: Global,
     path: &str,
-    told: &mut Told,
+    told: &mut ToldCases,
 ) -> io::Result<()> {
     let server = new_server(rt, alloc, path)?;
     serve_while(rt, alloc, path, &server, told)
@@ -132,7 +132,7 @@ fn serve_while<R: Net + Processes + Threads + Wait + Clock + Sync>(
     alloc: Global,
     path: &str,
     server: &Server<TableServer>,
-    told: &mut Told,
+    told: &mut ToldCases,
 ) -> io::Result<()> {
     thread::scope(thread::scope_env(), rt, |scope| {
         if !start_server(scope, rt, server) {
@@ -154,18 +154,18 @@ fn start_server<'s, E, R: Threads + Wait + Clock + Sync>(
         .is_ok()
 }
 
-// The cases, and then two while all seats are taken.
+// The cases, and then two while all slots are taken.
 fn try_beside<R: Net + Processes + Threads + Wait + Clock + Sync>(
     rt: &R,
     alloc: Global,
     path: &str,
-    told: &mut Told,
+    told: &mut ToldCases,
 ) -> io::Result<()> {
     try_cases(rt, alloc, path, told)?;
-    let streams = take_all_seats(rt, alloc, path)?;
-    told.text.extend_from_slice(b"with no free seat: ")?;
+    let streams = take_all_slots(rt, alloc, path)?;
+    told.text.extend_from_slice(b"with no free slot: ")?;
     try_one(rt, alloc, path, "svwait -t 100 web", told)?;
-    told.text.extend_from_slice(b"until a seat is free: ")?;
+    told.text.extend_from_slice(b"until a slot is free: ")?;
     thread::scope(thread::scope_env(), rt, |scope| {
         if !start_leaving(scope, rt, streams) {
             return Err(io::Error::from(io::ErrorKind::OutOfMemory));
@@ -174,10 +174,10 @@ fn try_beside<R: Net + Processes + Threads + Wait + Clock + Sync>(
     })
 }
 
-// Connections that have all seats, since each was answered.
-fn take_all_seats<R: Net>(rt: &R, alloc: Global, path: &str) -> io::Result<Vec<UnixStream>> {
+// Connections that have all slots, since each was answered.
+fn take_all_slots<R: Net>(rt: &R, alloc: Global, path: &str) -> io::Result<Vec<UnixStream>> {
     let mut streams = Vec::new(alloc);
-    for _ in 0..SEAT_COUNT {
+    for _ in 0..SLOT_COUNT {
         let mut stream = UnixStream::connect(rt, path)?;
         stream.write_all(b"mkdir queue\n")?;
         let mut answer = [0; 6];
@@ -205,7 +205,7 @@ fn try_cases<R: Net + Processes + Clock>(
     rt: &R,
     alloc: Global,
     path: &str,
-    told: &mut Told,
+    told: &mut ToldCases,
 ) -> io::Result<()> {
     for case in CASES.lines() {
         try_one(rt, alloc, path, case, told)?;
@@ -218,7 +218,7 @@ fn try_one<R: Net + Processes + Clock>(
     alloc: Global,
     path: &str,
     case: &str,
-    told: &mut Told,
+    told: &mut ToldCases,
 ) -> io::Result<()> {
     let mut output = CountedText::new(alloc);
     let mut errors = CountedText::new(alloc);

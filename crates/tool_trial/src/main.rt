@@ -1,4 +1,5 @@
-//! Tries the clients over a real socket, beside a server that answers by a table, and prints what came of each.
+//! Tries the clients over a real socket, beside a server that answers by a table, and prints what
+//! came of each.
 #![tactic(auto)]
 
 mod cases;
@@ -6,7 +7,7 @@ mod counted;
 mod table;
 mod whole_requests;
 
-use cases::{Told, try_all};
+use cases::{ToldCases, try_all};
 use std::io::Write;
 use std::{env, fs, io, process};
 
@@ -19,7 +20,7 @@ fn path_of(rt: &HostRuntime) -> io::Result<String> {
 
 fn main(rt: HostRuntime) -> io::Result<()> {
     let path = path_of(&rt)?;
-    let mut told = Told::new(rt.alloc());
+    let mut told = ToldCases::new(rt.alloc());
     let _ = fs::remove_file(&rt, path.as_str());
     let outcome = try_all(&rt, rt.alloc(), path.as_str(), &mut told);
     let _ = fs::remove_file(&rt, path.as_str());

@@ -1,5 +1,6 @@
-//! Who answers the requests of the trial: each request of the table has its lines, and another one is refused.
-use line_server::{Answers, Mailbox, Next};
+//! Who answers the requests of the trial: each request of the table has its lines, and another one
+//! is refused.
+use line_server::{AfterLine, Answers, Mailbox};
 use std::sync::Wait;
 use std::sync::atomic::{AtomicBool, Ordering};
 use std::time::Clock;
@@ -31,7 +32,8 @@ unread broken NoRun\n\n\
 #status late=row 3 late true true true false false 7 -1 -1 1 -1\n\n\
 #svc odd d=hello\n\n";
 
-/// The requests at which the connection ends without an answer: the first only the first time that it comes.
+/// The requests at which the connection ends without an answer: the first only the first time that
+/// it comes.
 const ENDS_ONCE: &[u8] = b"status late";
 
 const ENDS_ALWAYS: &[u8] = b"svc late u";
@@ -48,7 +50,8 @@ fn lines_of(request: &[u8]) -> &'static [u8] {
     b"refused Line\n\n"
 }
 
-/// Answers by the table. Its connections count as waiting, so that none of them makes way for another.
+/// Answers by the table. Its connections count as waiting, so that none of them makes way for
+/// another.
 #[derive(Drop)]
 pub struct TableServer {
     // Whether a connection has ended at `ENDS_ONCE`.
@@ -73,26 +76,26 @@ impl Answers for TableServer {
     fn answer<R: Wait + Clock>(
         &self,
         rt: &R,
-        _seat: usize,
+        _slot: usize,
         line: &[u8],
         mailbox: &Mailbox,
-    ) -> Next {
+    ) -> AfterLine {
         if self.ends_at(line) {
-            return Next::Close;
+            return AfterLine::Close;
         }
         let _ = mailbox.post(rt, lines_of(line));
-        Next::GoOn
+        AfterLine::GoOn
     }
 
-    fn refuse_long_line<R: Wait>(&self, rt: &R, _seat: usize, mailbox: &Mailbox) {
+    fn refuse_long_line<R: Wait>(&self, rt: &R, _slot: usize, mailbox: &Mailbox) {
         let _ = mailbox.post(rt, b"refused Line\n\n");
     }
 
-    fn settle<R: Wait>(&self, _rt: &R, _seat: usize) {}
+    fn settle<R: Wait>(&self, _rt: &R, _slot: usize) {}
 
-    fn keeps<R: Wait>(&self, _rt: &R, _seat: usize) -> bool {
+    fn keeps<R: Wait>(&self, _rt: &R, _slot: usize) -> bool {
         true
     }
 
-    fn leave<R: Wait>(&self, _rt: &R, _seat: usize) {}
+    fn leave<R: Wait>(&self, _rt: &R, _slot: usize) {}
 }

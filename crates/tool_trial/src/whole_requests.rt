@@ -1,4 +1,5 @@
-//! Whether requests come whole: a server that reads as soon as there is a byte finds each with its newline.
+//! Whether requests come whole: a server that reads as soon as there is a byte finds each with its
+//! newline.
 use s6_tools::{Tool, run_client};
 use std::alloc::Global;
 use std::io::{self, ErrorKind, Read, Write};
@@ -98,7 +99,8 @@ fn read_requests<R: Clock>(rt: &R, stream: &UnixStream) -> io::Result<bool> {
     Ok(true)
 }
 
-// Reads once, as soon as there is a byte: tries again at once while there is none. Whether a newline ends what was read.
+// Reads once, as soon as there is a byte: tries again at once while there is none. Whether a
+// newline ends what was read.
 fn reads_whole<R: Clock>(rt: &R, stream: &UnixStream) -> io::Result<bool> {
     let start = Instant::now(rt)?;
     for _ in 0..u64::MAX {

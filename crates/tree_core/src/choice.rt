@@ -1,5 +1,5 @@
-//! What an act (what an input asks or reports) asks of the services, the waiters and the event directories: the step's choice. Why it may be
-//! refused is in `refusals.rt`.
+//! What an act (what an input asks or reports) asks of the services, the waiters and the event
+//! directories: the step's choice. Why it may be refused is in `refusals.rt`.
 ghost use Rattle.std.specs.Prelude.{◌≡◌, ◌+◌, ◌<◌, ◌^◌, List, All, IfOk, IsOk, OnOk, true};
 ghost use Rattle.event_directory.specs.Changes.{directory_request_of};
 ghost use Rattle.s6_events.specs.declared.moment.Moment.{Moment};
@@ -14,7 +14,7 @@ ghost use Rattle.tree_core.specs.Choices.{chosen_of, chosen_work, chosen_change,
 ghost use Rattle.tree_core.specs.Plan.{Chooses, HasFired, is_reading, is_request};
 
 use super::input::Act;
-use super::limits::NAME_LIMIT;
+use super::limits::WAIT_NAME_LIMIT;
 use super::refusals::{copy_of, judge, letters, report, scan, send, show, subscribe, wait};
 use super::reply::Refusal;
 use arrayvec::ArrayVec;
@@ -25,7 +25,8 @@ use supervise_core::{Change, Row};
 use svscan_core::{Entry, Registry, ScanOrder, ServiceWork, closing_after};
 use wait_conditions::WaitChange;
 
-/// What a step does for its act: why that is refused, or what it asks of the services, the waiters or the event directories.
+/// What a step does for its act: why that is refused, or what it asks of the services, the waiters
+/// or the event directories.
 #[derive(Drop)]
 pub enum Choice<'a> {
     /// The act is refused, and no part is asked.
@@ -40,12 +41,14 @@ pub enum Choice<'a> {
     Command(ScanOrder),
     /// The reply is this status row; no part is asked.
     Show(Row),
-    /// The reply has the last deaths of the service of this name, if there is one; no part is asked.
+    /// The reply has the last deaths of the service of this name, if there is one; no part is
+    /// asked.
     Tally(Name),
-    /// The reply tells this: whether the last deaths of a service are a permanent failure; no part is asked.
+    /// The reply tells this: whether the last deaths of a service are a permanent failure; no part
+    /// is asked.
     Failure(bool),
     /// A waiter for these services is asked for, with a timeout in milliseconds, 0 for none.
-    Wait(Condition, Mode, u32, ArrayVec<Sid, NAME_LIMIT>),
+    Wait(Condition, Mode, u32, ArrayVec<Sid, WAIT_NAME_LIMIT>),
     Cancel(WaitId),
     MakeDirectory(Name),
     Send(Name, &'a Message),
@@ -54,7 +57,8 @@ pub enum Choice<'a> {
 }
 
 impl Choice<'_> {
-    /// What the choice asks of the services, which is nothing for a request that only reads or that other parts serve.
+    /// What the choice asks of the services, which is nothing for a request that only reads or that
+    /// other parts serve.
     pub fn services(&self) -> ServiceWork<'_>
         ensures { work_asked result ≡ chosen_work (chosen_of self.now) }
     {
@@ -94,7 +98,8 @@ impl Choice<'_> {
         }
     }
 
-    /// Whether the tree is closing after it, where it was closing before or not: a command to all services may close it.
+    /// Whether the tree is closing after it, where it was closing before or not: a command to all
+    /// services may close it.
     pub fn closing(&self, closing: bool) -> bool
         ensures { result ≡ closing_after (chosen_work (chosen_of self.now)) closing }
     {
@@ -105,7 +110,8 @@ impl Choice<'_> {
     }
 }
 
-// The report that an act is, and the service that it names; None for a request of a user, and for a tick.
+// The report that an act is, and the service that it names; None for a request of a user, and for a
+// tick.
 #[inline(always)]
 fn report_in<A: Allocator>(act: &Act<A>) -> Option<(Sid, Report)>
     ensures { result ≡ report_in act.now }
@@ -128,8 +134,8 @@ fn report_in<A: Allocator>(act: &Act<A>) -> Option<(Sid, Report)>
     }
 }
 
-/// What a step does for this act. The due timers of these services have not gone off yet; the act is done as if they had. The answer is
-/// written into `choice`, since it is large.
+/// What a step does for this act. The due timers of these services have not gone off yet; the act
+/// is done as if they had. The answer is written into `choice`, since it is large.
 #[inline(always)]
 pub fn choose<'a, A: Allocator + Copy>(
     alloc: A,
@@ -163,8 +169,8 @@ pub fn choose<'a, A: Allocator + Copy>(
     }
 }
 
-// As `choose`, for an act that is neither a report nor a tick. It is a function of its own: inlined, each step would fill a place for
-// each of its answers.
+// As `choose`, for an act that is neither a report nor a tick. It is a function of its own:
+// inlined, each step would fill a place for each of its answers.
 #[inline(never)]
 fn choose_request<'a, A: Allocator + Copy>(
     alloc: A,
@@ -191,7 +197,8 @@ fn choose_request<'a, A: Allocator + Copy>(
     Ok(())
 }
 
-// The choice for an act that is neither a report nor a tick. While the tree is closing, it takes no listing and no command to all services.
+// The choice for an act that is neither a report nor a tick. While the tree is closing, it takes no
+// listing and no command to all services.
 fn chosen_for<'a, A: Allocator + Copy>(
     alloc: A,
     registry: &Registry<A>,

@@ -1,4 +1,5 @@
-//! The clock of a step, and the moments that join the history: the clock reading first, then the marks.
+//! The clock of a step, and the moments that join the history: the clock reading first, then the
+//! marks.
 ghost use Rattle.std.specs.Prelude.{◌≡◌, ◌+◌, ◌≤◌, ◌++◌, [], map, max, length, IfOk, IsOkAnd};
 ghost use Rattle.s6_events.specs.At.{last_moment};
 ghost use Rattle.svscan_core.specs.Moves.{moment_of};
@@ -8,7 +9,8 @@ use s6_events::{At, Moment, NoMemory};
 use std::alloc::Allocator;
 use svscan_core::Event;
 
-/// The later of two moments: the clock after a step is the later of the clock and the moment of its input.
+/// The later of two moments: the clock after a step is the later of the clock and the moment of its
+/// input.
 pub fn later(a: At, b: At) -> At
     ensures later { result ≡ max a b }
     ensures bound { result ≤ last_moment }
@@ -16,8 +18,8 @@ pub fn later(a: At, b: At) -> At
     if a.millis() < b.millis() { b } else { a }
 }
 
-/// The moments of a step, for the history, in a list that has none yet: the clock reading, where the clock moves on from `clock` to the later
-/// moment `at`, and then the marks of services.
+/// The moments of a step, for the history, in a list that has none yet: the clock reading, where
+/// the clock moves on from `clock` to the later moment `at`, and then the marks of services.
 pub fn moments_of<A: Allocator + Copy>(
     mut moments: Vec<Moment, A>,
     clock: At,

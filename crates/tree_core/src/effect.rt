@@ -28,8 +28,9 @@ pub struct Release {
     pub verdict: Verdict,
 }
 
-/// All that one step gives: the reply to the input; the marks and orders, in the order made; the matches, by event or sent letter and
-/// then in rising serial; and the releases, by moment and then in rising serial.
+/// All that one step gives: the reply to the input; the marks and orders, in the order made; the
+/// matches, by event or sent letter and then in rising serial; and the releases, by moment and then
+/// in rising serial.
 #[derive(Drop)]
 pub struct Effect<A: Allocator> {
     /// The reply to the input.
@@ -100,7 +101,8 @@ impl<A: Allocator + Copy> Effect<A> {
         Ok(())
     }
 
-    // Adds the matches of a step, which its event directories found: a subscription, and what it heard (its hit).
+    // Adds the matches of a step, which its event directories found: a subscription, and what it
+    // heard (its hit).
     #[inline(always)]
     pub(crate) fn match_all(&mut self, plan: &DirectoriesPlan<A>) -> Result<(), NoMemory>
         ensures reply { self.new.reply ≡ self.old.reply }
@@ -135,7 +137,8 @@ impl<A: Allocator + Copy> Effect<A> {
         Ok(())
     }
 
-    // Adds the releases of a step: those by its moments, and then that of the waiter that it makes, if that is released at once.
+    // Adds the releases of a step: those by its moments, and then that of the waiter that it makes,
+    // if that is released at once.
     #[inline(always)]
     pub(crate) fn release_all(&mut self, plan: &WaitsPlan<A>) -> Result<(), NoMemory>
         ensures reply { self.new.reply ≡ self.old.reply }

@@ -6,8 +6,8 @@ use std::marker::Model;
 use svscan_core::RegistryImage;
 use wait_conditions::WaitsImage;
 
-/// All that a tree stores, as plain data. A clause sees it as what its tree stores, so that both agree with the same states of the
-/// written machine (`specs/`).
+/// All that a tree stores, as plain data. A clause sees it as what its tree stores, so that both
+/// agree with the same states of the written machine (`specs/`).
 #[derive(Drop)]
 pub struct Image<A: Allocator> {
     pub clock: At,

@@ -1,4 +1,5 @@
-//! When something is next due in a tree by itself: the next moment to which a timer is set. And whether all its supervisors have ended.
+//! When something is next due in a tree by itself: the next moment to which a timer is set. And
+//! whether all its supervisors have ended.
 ghost use Rattle.std.specs.Prelude.{◌≡◌, ◌<◌, Some, length, map, slice_get, option_map};
 ghost use Rattle.std.specs.List.{list_all};
 ghost use Rattle.supervise_core.specs.ChartState.{is_gone};

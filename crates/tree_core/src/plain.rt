@@ -34,8 +34,8 @@ pub enum PlainAct<A: Allocator> {
     Tick,
 }
 
-/// An input as plain data, which a record can keep once the tree has taken the input itself. A clause sees it as the input that it
-/// stands for.
+/// An input as plain data, which a record can keep once the tree has taken the input itself. A
+/// clause sees it as the input that it stands for.
 #[derive(Drop)]
 pub struct PlainInput<A: Allocator> {
     pub actor: Actor,
@@ -94,8 +94,8 @@ impl<A: Allocator + Copy> Act<A> {
         }
     }
 
-    // The same, of an act that is neither a report nor a tick. It is a function of its own: inlined, each step would fill a place for
-    // each of its answers.
+    // The same, of an act that is neither a report nor a tick. It is a function of its own:
+    // inlined, each step would fill a place for each of its answers.
     #[inline(never)]
     fn plain_request(&self, alloc: A) -> Result<PlainAct<A>, AllocError>
         requires { is_request self.now ≡ true }

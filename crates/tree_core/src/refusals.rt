@@ -1,6 +1,8 @@
-//! Why an act is refused before a part (services, waiters, event directories) is asked, and the order in which that is looked for. The choice
-//! is what a step does for its act: the refusal, or what it asks of a part, which may refuse it too: a stale report in `reports.rt` of
-//! supervise_core; a full list in `waiter_limits.rt` of wait_conditions and `refusing.rt` of event_directory.
+//! Why an act is refused before a part (services, waiters, event directories) is asked, and the
+//! order in which that is looked for. The choice is what a step does for its act: the refusal, or
+//! what it asks of a part, which may refuse it too: a stale report in `reports.rt` of
+//! supervise_core; a full list in `waiter_limits.rt` of wait_conditions and `refusing.rt` of
+//! event_directory.
 ghost use Rattle.std.specs.Prelude.{◌≡◌, ◌==◌, ◌+◌, ◌<◌, ◌≤◌, ◌^◌, ◌++◌, List, map, find, bytes_eq, length, option_map, All, IfOk, None, Some, if◌then◌else◌};
 ghost use Rattle.std.specs.List.{list_any};
 ghost use Rattle.death_tally.specs.PermanentFailure.{are_permanent_failure};
@@ -19,7 +21,7 @@ ghost use Rattle.tree_core.specs.Replies.{tally_in};
 
 use super::choice::Choice;
 use super::input::Target;
-use super::limits::NAME_LIMIT;
+use super::limits::WAIT_NAME_LIMIT;
 use super::names::has_repeated_name;
 use super::reply::Refusal;
 use arrayvec::ArrayVec;
@@ -59,8 +61,8 @@ pub fn report<'a, A: Allocator + Copy>(
     Choice::Report(sid, change)
 }
 
-/// The choice for letters to the service of this name. NoService where no service has it, Ended where its supervisor has ended once the
-/// due timers went off.
+/// The choice for letters to the service of this name. NoService where no service has it, Ended
+/// where its supervisor has ended once the due timers went off.
 pub fn letters<'a, A: Allocator + Copy>(
     registry: &Registry<A>,
     name: Name,
@@ -82,8 +84,8 @@ pub fn letters<'a, A: Allocator + Copy>(
     Choice::Letters(standing.sid(), Change::Control(copy_of(letters)))
 }
 
-/// The choice that shows the status row of the service of this name, as it is once the due timers went off. NoService where no service
-/// has the name.
+/// The choice that shows the status row of the service of this name, as it is once the due timers
+/// went off. NoService where no service has the name.
 pub fn show<'a, A: Allocator + Copy>(registry: &Registry<A>, name: Name, now: At) -> Choice<'a>
     requires { All (λ c. c.generation + 1 < 2 ^ 64) (charts_of registry.now.shown.services) }
     ensures idle { AsksNothing now (chosen_of result) }
@@ -102,8 +104,8 @@ pub fn show<'a, A: Allocator + Copy>(registry: &Registry<A>, name: Name, now: At
     }
 }
 
-/// The choice that tells whether the last deaths of the service of this name are a permanent failure. NoService where no service has
-/// the name.
+/// The choice that tells whether the last deaths of the service of this name are a permanent
+/// failure. NoService where no service has the name.
 pub fn judge<'a, A: Allocator + Copy>(
     registry: &Registry<A>,
     name: Name,
@@ -118,14 +120,15 @@ pub fn judge<'a, A: Allocator + Copy>(
         (tally_in name registry.now.shown.services)) }
 {
     match registry.named(name) {
-        // Its tally, the last deaths, is compared with the list of exits, the count and the seconds.
+        // Its tally, the last deaths, is compared with the list of exits, the count and the
+        // seconds.
         Some(service) => { Choice::Failure(permafails(service.tally(), now, seconds, count, list)) }
         None => Choice::Refuse(Refusal::NoService),
     }
 }
 
-/// The choice for a listing. Closing while the tree is closing; else Repeated where a name is in it twice. `NoMemory` where memory is
-/// refused.
+/// The choice for a listing. Closing while the tree is closing; else Repeated where a name is in it
+/// twice. `NoMemory` where memory is refused.
 pub fn scan<A: Allocator + Copy>(
     alloc: A,
     listing: &[Entry],
@@ -142,11 +145,12 @@ pub fn scan<A: Allocator + Copy>(
     Ok(Choice::Listing(listing))
 }
 
-// The serials of the services of these names, which are at most `NAME_LIMIT`. None where a name is that of no service.
+// The serials of the services of these names, which are at most `WAIT_NAME_LIMIT`. None where a
+// name is that of no service.
 fn serials_of<A: Allocator + Copy>(
     registry: &Registry<A>,
     names: &[Name],
-) -> Option<ArrayVec<Sid, NAME_LIMIT>>
+) -> Option<ArrayVec<Sid, WAIT_NAME_LIMIT>>
     requires { length names.now ≤ name_limit }
     ensures { option_map (λ sids. sids.items) result
         ≡ (if all_named names.now (charts_of registry.now.shown.services)
@@ -162,8 +166,9 @@ fn serials_of<A: Allocator + Copy>(
     Some(sids)
 }
 
-/// The choice for a wait for the services of these names. Empty, Repeated, TooMany (over 16 names), NoService: the first of these that
-/// applies. Where there are 1,024 waiters already, it is refused last, by `refusal_for` of wait_conditions. `NoMemory` where memory is refused.
+/// The choice for a wait for the services of these names. Empty, Repeated, TooMany (over 16 names),
+/// NoService: the first of these that applies. Where there are 1,024 waiters already, it is refused
+/// last, by `refusal_for` of wait_conditions. `NoMemory` where memory is refused.
 pub fn wait<'a, A: Allocator + Copy>(
     alloc: A,
     registry: &Registry<A>,
@@ -181,7 +186,7 @@ pub fn wait<'a, A: Allocator + Copy>(
     if has_repeated_name(alloc, names)? {
         return Ok(Choice::Refuse(Refusal::Repeated));
     }
-    if names.len() > NAME_LIMIT {
+    if names.len() > WAIT_NAME_LIMIT {
         return Ok(Choice::Refuse(Refusal::TooMany));
     }
     Ok(match serials_of(registry, names) {
@@ -190,7 +195,8 @@ pub fn wait<'a, A: Allocator + Copy>(
     })
 }
 
-/// The choice for a subscription to the event directory of a service or to a free one. NoService where no service has the name.
+/// The choice for a subscription to the event directory of a service or to a free one. NoService
+/// where no service has the name.
 pub fn subscribe<'a, A: Allocator + Copy>(registry: &Registry<A>, target: Target) -> Choice<'a>
     ensures { chosen_of result ≡ subscribe_choice
         (source_named target (charts_of registry.now.shown.services)) }
@@ -205,7 +211,8 @@ pub fn subscribe<'a, A: Allocator + Copy>(registry: &Registry<A>, target: Target
     Choice::Subscribe(source)
 }
 
-/// The choice for a message. Reserved for the event directory of a service, which takes none from outside.
+/// The choice for a message. Reserved for the event directory of a service, which takes none from
+/// outside.
 pub fn send<'a>(target: Target, message: &'a Message) -> Choice<'a>
     ensures { chosen_of result ≡ send_choice target message.now }
 {

@@ -7,13 +7,14 @@ use std::marker::Model;
 use supervise_core::Row;
 use svscan_core::Listed;
 
-/// Why an act was refused. A refused act changes nothing itself; still the clock moves on in its step, and the due timers go off, but for
-/// `Spent`. The reasons are chosen here.
+/// Why an act was refused. A refused act changes nothing itself; still the clock moves on in its
+/// step, and the due timers go off, but for `Spent`. The reasons are chosen here.
 #[derive(Clone, Copy, Debug, PartialEq, Eq)]
 pub enum Refusal {
     /// No service has this name or serial.
     NoService = 1,
-    /// A report of another run than the present one, or one that is not awaited in the present phase of the service.
+    /// A report of another run than the present one, or one that is not awaited in the present
+    /// phase of the service.
     Stale = 2,
     /// A message from outside to the event directory of a service.
     Reserved = 3,
@@ -21,7 +22,8 @@ pub enum Refusal {
     TooMany = 4,
     /// There is no free directory of this name, or no subscription or waiter of this serial.
     NoSuch = 5,
-    /// The tree is closing, since a terminate was done; it takes no listing and no command to all services.
+    /// The tree is closing, since a terminate was done; it takes no listing and no command to all
+    /// services.
     Closing = 6,
     /// A name was given twice.
     Repeated = 7,
@@ -35,8 +37,8 @@ pub enum Refusal {
     Spent = 11,
 }
 
-/// What a scan answers: the services that were dropped, in rising serial, and what became of each name for which
-/// there was no service, in the order of the names' bytes.
+/// What a scan answers: the services that were dropped, in rising serial, and what became of each
+/// name for which there was no service, in the order of the names' bytes.
 #[derive(Drop)]
 pub struct ScanReport<A: Allocator> {
     dropped: Vec<Sid, A>,

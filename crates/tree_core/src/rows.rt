@@ -47,8 +47,8 @@ pub fn rows_of<A: Allocator + Copy>(registry: &Registry<A>, now: At) -> ArrayVec
     rows
 }
 
-/// Fills a list with the status rows of all services; what it held is gone. `NoMemory` where memory is refused: the list is then filled in
-/// part.
+/// Fills a list with the status rows of all services; what it held is gone. `NoMemory` where memory
+/// is refused: the list is then filled in part.
 pub fn fill_rows<A: Allocator + Copy, B: Allocator>(
     registry: &Registry<A>,
     now: At,

@@ -1,6 +1,7 @@
-//! A step, in its order: clock, due timers, act, who looks at its moments, reply. It is worked out before anything is changed; `apply_into`
-//! of `tree.rt` makes it, or hands the input back where memory was refused. `work_out` of svscan_core (`pending.rt`) does the due timers,
-//! in rising serial, and then the act's work.
+//! A step, in its order: clock, due timers, act, who looks at its moments, reply. It is worked out
+//! before anything is changed; `apply_into` of `tree.rt` makes it, or hands the input back where
+//! memory was refused. `work_out` of svscan_core (`pending.rt`) does the due timers, in rising
+//! serial, and then the act's work.
 ghost use Rattle.std.specs.Prelude.{◌≡◌, ◌++◌, ◌≤◌, List, [], length, map, true, false, IfOk, IsOk, OnOk};
 ghost use Rattle.svscan_core.specs.Registry.{registry_prepared, result_of};
 ghost use Rattle.svscan_core.specs.Table.{charts_of};
@@ -27,7 +28,8 @@ use std::alloc::Allocator;
 use svscan_core::{Registry, RegistryPlan};
 use wait_conditions::{WaitAnswer, Waits, WaitsPlan};
 
-/// A step that is worked out before anything is changed: the clock after it, whether the tree is closing then, and the plan of each part.
+/// A step that is worked out before anything is changed: the clock after it, whether the tree is
+/// closing then, and the plan of each part.
 #[derive(Drop)]
 pub struct StepPlan<A: Allocator> {
     pub now: At,
@@ -61,7 +63,8 @@ fn waiter_reply<A: Allocator>(told: &WaitAnswer) -> Reply<A>
 {
     match told {
         WaitAnswer::Added(id, _) => Reply::Waiter(*id),
-        // `wait` of `refusals.rt` has refused bad names before, so that only the limit of waiters is left.
+        // `wait` of `refusals.rt` has refused bad names before, so that only the limit of waiters
+        // is left.
         WaitAnswer::Refused(_) => Reply::Refused(Refusal::TooMany),
         // There was no such waiter to be cancelled.
         WaitAnswer::Cancelled(false) => Reply::Refused(Refusal::NoSuch),
@@ -82,8 +85,9 @@ fn directory_reply<A: Allocator>(told: &DirectoryAnswer) -> Reply<A>
     }
 }
 
-// The reply to a choice, whose work the registry has worked out. `waiters` and `directories` are the answers to what it asks of the
-// waiters and of the event directories. It is a function of its own, since most replies are just Done.
+// The reply to a choice, whose work the registry has worked out. `waiters` and `directories` are
+// the answers to what it asks of the waiters and of the event directories. It is a function of its
+// own, since most replies are just Done.
 #[inline(never)]
 fn reply_to<A: Allocator + Copy>(
     alloc: A,
@@ -100,7 +104,8 @@ fn reply_to<A: Allocator + Copy>(
     Ok(match choice {
         Choice::Refuse(why) => Reply::Refused(*why),
         Choice::Report(_, _) if registry.is_stale() => Reply::Refused(Refusal::Stale),
-        // Which services the scan drops, and what becomes of each listed name for which there was no service.
+        // Which services the scan drops, and what becomes of each listed name for which there was
+        // no service.
         Choice::Listing(_) => Reply::Scanned(ScanReport::new(
             registry.dropped().to_vec(alloc)?,
             registry.listed().to_vec(alloc)?,
@@ -119,7 +124,8 @@ fn reply_to<A: Allocator + Copy>(
     })
 }
 
-// Whether the reply is known to be Done without a look at the answers of the waiters and of the event directories.
+// Whether the reply is known to be Done without a look at the answers of the waiters and of the
+// event directories.
 fn is_just_done<A: Allocator + Copy>(registry: &Registry<A>, choice: &Choice) -> bool
     ensures { result ≡ true → (services : List Supervised) → (told : ListenersAnswer)
         → chosen_reply {A = A} (chosen_of choice.now) services
@@ -132,8 +138,8 @@ fn is_just_done<A: Allocator + Copy>(registry: &Registry<A>, choice: &Choice) ->
     }
 }
 
-// Fills an empty effect (all that the step gives) with what the parts prepared: the marks and orders of services, the matches of subscriptions, the
-// releases of waiters, and the reply.
+// Fills an empty effect (all that the step gives) with what the parts prepared: the marks and
+// orders of services, the matches of subscriptions, the releases of waiters, and the reply.
 #[inline(always)]
 fn fill_effect<A: Allocator + Copy>(
     registry: &Registry<A>,
@@ -169,10 +175,12 @@ fn fill_effect<A: Allocator + Copy>(
     Ok(())
 }
 
-/// Works out the step of an input, at this clock: each part prepares its share, and the effect is filled. Nothing is changed yet. `find_due` notes
-/// the services whose timers are due, and `choose` what the act asks of each part; the moments of the step (`joining`) are those that will join the
-/// history, in a list that the history lends. Only here is worked out what the clock is after the step, and which services are due. It is called at
-/// one place, and is inlined there so that its plan, which is large, isn't moved.
+/// Works out the step of an input, at this clock: each part prepares its share, and the effect is
+/// filled. Nothing is changed yet. `find_due` notes the services whose timers are due, and `choose`
+/// what the act asks of each part; the moments of the step (`joining`) will join the history, from
+/// which their list is borrowed. This is the one place that works out the new clock, and which
+/// services are due. It is called at one place, and is inlined there so that its plan, which is
+/// large, isn't moved.
 #[inline(always)]
 pub fn plan_step<A: Allocator + Copy>(
     registry: &mut Registry<A>,

@@ -1,5 +1,5 @@
-//! The tree: one input is one step, which `step.rt` works out and which is then made here. Where memory is refused, the whole input is
-//! handed back.
+//! The tree: one input is one step, which `step.rt` works out and which is then made here. Where
+//! memory is refused, the whole input is handed back.
 ghost use Rattle.std.specs.Prelude.{◌≡◌, ◌≤◌, IfOk, OnErr, OnOk, IfErr, IsOk, length, true, option_map};
 ghost use Rattle.tree_core.specs.Acts.{offer_of};
 ghost use Rattle.tree_core.specs.Effect.{outcome_of};
@@ -35,8 +35,9 @@ use supervise_core::Row;
 use svscan_core::Registry;
 use wait_conditions::{WaitState, Waits, earlier_of};
 
-/// All services, waiters and event directories, with their clock and their history, of which the moments are forgotten that no waiter
-/// needs any more. A tree keeps the allocator that it was made with.
+/// All services, waiters and event directories, with their clock and their history, of which the
+/// moments are forgotten that no waiter needs any more. A tree keeps the allocator that it was made
+/// with.
 #[derive(Drop)]
 pub struct Tree<A: Allocator> {
     clock: At,
@@ -69,24 +70,22 @@ impl<A: Allocator + Copy> Tree<A> {
         ensures { StandsFor result new_machine }
     {
         Tree {
-            // The clock, how many inputs the tree has taken, and whether a terminate was done.
             clock: At::zero(),
             steps: 0,
             closing: false,
-            // The services, and their timers.
             registry: Registry::new(alloc),
             deadlines: Deadlines::new(alloc),
-            // The clock readings and marks that waiters still need, the waiters, and the event directories.
             history: History::new(alloc),
             waits: Waits::new(alloc),
             directories: Directories::new(alloc),
         }
     }
 
-    /// Takes one input as `apply_into` does, and leaves it where it lies: a caller that holds it moves nothing. Once the step is made, nothing is
-    /// said of what lies there. At `NoMemory` the input is as it was, and only the effect has changed. A tree that has taken 2^48 steps is spent,
-    /// and refuses every input. Else the step is planned, and then each part commits its share of the plan; last, the history forgets the moments
-    /// that no waiter needs.
+    /// Takes one input as `apply_into` does, but works on the caller's, so that it isn't moved.
+    /// After Ok its contents are unspecified. At `NoMemory` the input is as it was, and only the
+    /// effect has changed. A tree that has taken 2^48 steps is spent, and refuses every input. Else
+    /// the step is planned, and then each part commits its share of the plan; last, the history
+    /// forgets the moments that no waiter needs.
     pub fn apply_in_place(
         &mut self,
         input: &mut Input<A>,
@@ -120,7 +119,8 @@ impl<A: Allocator + Copy> Tree<A> {
             Ok(plan) => plan,
             Err(refused) => return Err(refused),
         };
-        // From here on nothing can be refused, so that the pattern of a new subscription (`offer`) may leave the input.
+        // From here on nothing can be refused, so that the pattern of a new subscription (`offer`)
+        // may leave the input.
         let offer = take_offer(&mut input.act, &plan.letters.answer);
         self.clock = plan.now;
         self.steps += 1;
@@ -134,9 +134,11 @@ impl<A: Allocator + Copy> Tree<A> {
         Ok(())
     }
 
-    /// Takes one input, whole: the clock first, then the due timers, then the act; and fills the effect with all that the step gives.
-    /// What was in the effect is gone, but its memory is used again: a caller that makes many steps keeps one effect, and a step then
-    /// costs only what it gives. Where memory is refused the same input comes back with `NoMemory`, and only the effect has changed.
+    /// Takes one input, whole: the clock first, then the due timers, then the act; and fills the
+    /// effect with all that the step gives. What was in the effect is gone, but its memory is used
+    /// again: a caller that makes many steps keeps one effect, and a step then costs only what it
+    /// gives. Where memory is refused the same input comes back with `NoMemory`, and only the
+    /// effect has changed.
     pub fn apply_into(
         &mut self,
         mut input: Input<A>,
@@ -154,9 +156,10 @@ impl<A: Allocator + Copy> Tree<A> {
         }
     }
 
-    /// Takes one input as `apply_into` does, and returns a new effect. A refused act is a step like any other. Where memory is refused the
-    /// same input comes back with `NoMemory`, and nothing has changed at all. That never comes from a spent tree, nor for a tick, a status
-    /// or a permafailon at a moment that isn't later than the clock, while no timer is due.
+    /// Takes one input as `apply_into` does, and returns a new effect. A refused act is a step like
+    /// any other. Where memory is refused the same input comes back with `NoMemory`, and nothing
+    /// has changed at all. That never comes from a spent tree, nor for a tick, a status or a
+    /// permafailon at a moment that isn't later than the clock, while no timer is due.
     pub fn apply(&mut self, input: Input<A>) -> Result<Effect<A>, (Input<A>, NoMemory)>
         ensures step { IfOk result (λ effect. (m : Machine) → StandsFor self.old m →
             (outcome_of effect ≡ outcome m input) × StandsFor self.new (after m input)) }
@@ -169,7 +172,8 @@ impl<A: Allocator + Copy> Tree<A> {
         Ok(effect)
     }
 
-    /// The clock: the greatest moment of all inputs so far, without those that a spent tree refused; or 0.
+    /// The clock: the greatest moment of all inputs so far, without those that a spent tree
+    /// refused; or 0.
     pub fn now(&self) -> At
         ensures clock { (m : Machine) → StandsFor self.now m → result ≡ m.clock }
         ensures there { (m : Machine) × StandsFor self.now m }
@@ -191,8 +195,8 @@ impl<A: Allocator + Copy> Tree<A> {
         rows_of(&self.registry, self.clock)
     }
 
-    /// Fills a list with the rows that `rows` gives, at most 256; what it held is gone. `NoMemory` where memory is refused: the list is then
-    /// filled in part. Each row is written once.
+    /// Fills a list with the rows that `rows` gives, at most 256; what it held is gone. `NoMemory`
+    /// where memory is refused: the list is then filled in part. Each row is written once.
     pub fn fill_rows<B: Allocator>(&self, rows: &mut Vec<Row, B>) -> Result<(), NoMemory>
         ensures each { OnOk result ((m : Machine) → StandsFor self.now m
             → rows.new.items ≡ all_rows m) }
@@ -208,7 +212,8 @@ impl<A: Allocator + Copy> Tree<A> {
         self.waits.result(id)
     }
 
-    /// What the subscription of this serial has heard, or None where there is none. Page `s6-ftrig-listen1`.
+    /// What the subscription of this serial has heard, or None where there is none. Page
+    /// `s6-ftrig-listen1`.
     pub fn list(&self, id: SubId) -> Option<SubView<'_>>
         ensures { (m : Machine) → StandsFor self.now m
             → option_map (λ v. (v.letters.now, v.state)) result
@@ -217,8 +222,9 @@ impl<A: Allocator + Copy> Tree<A> {
         self.directories.list(id)
     }
 
-    /// The next moment, in milliseconds, to which the timer of a service is set, or at which a waiter that waits still has its deadline;
-    /// None where there is none. Until then nothing happens by itself.
+    /// The next moment, in milliseconds, to which the timer of a service is set, or at which a
+    /// waiter that waits still has its deadline; None where there is none. Until then nothing
+    /// happens by itself.
     pub fn next_due(&self) -> Option<u64>
         ensures { (m : Machine) → StandsFor self.now m → result ≡ next_due m }
     {
@@ -232,8 +238,8 @@ impl<A: Allocator + Copy> Tree<A> {
         self.closing && are_gone(&self.registry)
     }
 
-    /// All that it stores as plain data: an image agrees with the same states of the written machine (`specs/`) as its tree. `NoMemory`
-    /// where memory is refused.
+    /// All that it stores as plain data: an image agrees with the same states of the written
+    /// machine (`specs/`) as its tree. `NoMemory` where memory is refused.
     pub fn image(&self) -> Result<Image<A>, NoMemory>
         ensures { IfOk result (λ image. image ≡ self.now) }
     {
@@ -264,20 +270,22 @@ impl<A: Allocator + Copy> Tree<A> {
     }
 }
 
-// The moments that the history keeps: those from this place on, since the ones before it are forgotten.
+// The moments that the history keeps: those from this place on, since the ones before it are
+// forgotten.
 fn kept_of<A: Allocator + Copy>(history: &History<A>, forgotten: u64) -> &[Moment]
     requires { history.now.forgotten ≡ forgotten }
     ensures { result.now ≡ history.now.kept }
 {
     match history.from(forgotten) {
         Some(moments) => moments,
-        // Each step forgets only what is before `needed_from`, which is the place that is asked for.
+        // Each step forgets only what is before `needed_from`, which is the place that is asked
+        // for.
         None => unreachable!(),
     }
 }
 
-// Takes the pattern that the act offers out of it, and whether it is to repeat, if the event directories answered with a new
-// subscription. Else the act, which is large, is not moved.
+// Takes the pattern that the act offers out of it, and whether it is to repeat, if the event
+// directories answered with a new subscription. Else the act, which is large, is not moved.
 fn take_offer<A: Allocator>(act: &mut Act<A>, told: &DirectoryAnswer) -> Option<(Pattern, bool)>
     ensures { is_subscribed told.now ≡ true
         → option_map (λ o. (o.0, o.1)) result ≡ offer_of act.old }
@@ -288,8 +296,8 @@ fn take_offer<A: Allocator>(act: &mut Act<A>, told: &DirectoryAnswer) -> Option<
     }
 }
 
-// Takes the pattern that an act offers out of it, and leaves a tick. It is a function of its own: inlined, each step would fill places
-// for two acts.
+// Takes the pattern that an act offers out of it, and leaves a tick. It is a function of its own:
+// inlined, each step would fill places for two acts.
 #[inline(never)]
 fn take_pattern<A: Allocator>(act: &mut Act<A>) -> Option<(Pattern, bool)>
     ensures { option_map (λ o. (o.0, o.1)) result ≡ offer_of act.old }

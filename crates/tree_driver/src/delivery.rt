@@ -1,5 +1,6 @@
-//! Handing out what the steps of a run gave: what clients are told of it is a list of posts, each a line and the seat of the connection that gets it.
-//! The roster (in `notes`) lists the services and how each is over; `pace.steps` counts the steps that were handed out.
+//! Turns the effect of each step into posts, pairs of a slot and a line, and posts them. The roster
+//! (in `notes`) lists the services and how each is over; `pace.steps` counts the steps that were
+//! handed out.
 use crate::driver_state::{DriverState, Lasting};
 use channel_names::Channels;
 use locked_services::new_effect;
@@ -14,14 +15,16 @@ use std::mem;
 use std::sync::Wait;
 use tree_core::{Effect, Reply};
 
-/// Hands out what the steps gave that were not handed out yet: to the connections of clients, the replies, letters, matches and releases that
-/// concern them. False where memory is refused for one of the steps: the next call begins with that step.
+/// Hands out what the steps gave that were not handed out yet: to the connections of clients, the
+/// replies, letters, matches and releases that concern them. False where memory is refused for one
+/// of the steps: the next call begins with that step.
 pub fn deliver_all<C: Channels + Lanes, D: Board<C>, B: Backend, R: Wait>(
     context: &Context<'_, R>,
     office: &Office<C, D, B>,
     state: &mut DriverState<'_, C>,
 ) -> bool {
-    // The effect, what one step gave, is read into the same memory for each step. Afterwards it is put back.
+    // The effect, what one step gave, is read into the same memory for each step. Afterwards it is
+    // put back.
     let Ok(mut effect) = state.lasting.take_effect(context.alloc()) else {
         return false;
     };
@@ -36,8 +39,8 @@ pub fn deliver_all<C: Channels + Lanes, D: Board<C>, B: Backend, R: Wait>(
     true
 }
 
-// Hands out what each step gave that was not handed out yet, one step after the other; each is read into `effect`. At `NoMemory` nothing of that
-// step was handed out. `state.known` is for proofs alone.
+// Hands out what each step gave that was not handed out yet, one step after the other; each is read
+// into `effect`. At `NoMemory` nothing of that step was handed out.
 fn deliver_each<C: Channels + Lanes, D: Board<C>, B: Backend, R: Wait>(
     context: &Context<'_, R>,
     office: &Office<C, D, B>,
@@ -47,7 +50,8 @@ fn deliver_each<C: Channels + Lanes, D: Board<C>, B: Backend, R: Wait>(
     for _ in 0..u64::MAX {
         // The first step that was not handed out yet.
         let number = state.pace.steps.saturating_add(1);
-        // Fills `effect` with what that step gave. `told` is whose input it took, and when that was handed in.
+        // Fills `effect` with what that step gave. `told` is whose input it took, and when that was
+        // handed in.
         let told = office.step(context.rt, &mut state.known, number, effect)?;
         // No step of this number is made yet.
         let Some((actor, moment)) = told else {
@@ -56,11 +60,13 @@ fn deliver_each<C: Channels + Lanes, D: Board<C>, B: Backend, R: Wait>(
         // Adds the step's posts to `state.posts`.
         hand_out_of(context, state, actor, number, moment, effect)?;
         if state.posts.iter().any(|post| post.tells_states()) {
-            // The states of services are told from the board and the roster, so the roster has to note all steps that the board shows. Where
-            // memory is refused, it misses some: `post_all` sees that, and answers `refused NoMemory`.
+            // The states of services are told from the board and the roster, so the roster has to
+            // note all steps that the board shows. Where memory is refused, it misses some:
+            // `post_all` sees that, and answers `refused NoMemory`.
             let _ = catch_up(context, office, state);
         }
-        // The posts go into the connections' mailboxes. Where one is the reply to the step, its text is made of `effect.reply`.
+        // The posts go into the connections' mailboxes. Where one is the reply to the step, its
+        // text is made of `effect.reply`.
         let DriverState {
             board,
             lasting,
@@ -75,9 +81,10 @@ fn deliver_each<C: Channels + Lanes, D: Board<C>, B: Backend, R: Wait>(
     Ok(())
 }
 
-// Works out what is posted of a step, and to whom: adds it to `state.posts`. `actor` is who handed in the step's input: the scanner, a lane or a
-// client. The roster notes the step first, unless it has already; for a step of the scanner it is noted afterwards that its scan or tick was made.
-// At `NoMemory` nothing is posted, and the step is still to be handed out.
+// Works out what is posted of a step, and to whom: adds it to `state.posts`. `actor` is who handed
+// in the step's input: the scanner, a lane or a client. The roster notes the step first, unless it
+// has already; for a step of the scanner it is noted afterwards that its scan or tick was made. At
+// `NoMemory` nothing is posted, and the step is still to be handed out.
 fn hand_out_of<C: Channels + Lanes, R: Wait>(
     context: &Context<'_, R>,
     state: &mut DriverState<'_, C>,
@@ -101,7 +108,8 @@ fn hand_out_of<C: Channels + Lanes, R: Wait>(
     if *clock < moment {
         *clock = moment;
     }
-    // `askers_of` gives the seats whose requests the reply answers: for a scan, those in `served`, which asked for it.
+    // `askers_of` gives the slots whose requests the reply answers: for a scan, those in `served`,
+    // which asked for it.
     hand_out(
         askers_of(place, is_scan, &plans.served).as_slice(),
         *clock,
@@ -118,8 +126,9 @@ fn hand_out_of<C: Channels + Lanes, R: Wait>(
     Ok(())
 }
 
-// Has the roster note the steps that are not handed out yet, since the board shows them already. At `NoMemory` some are not noted. `noted` is how
-// many steps of the run the roster has noted, and `made` how many were made; `state.known` is for proofs alone.
+// Has the roster note the steps that are not handed out yet, since the board shows them already. At
+// `NoMemory` some are not noted. `noted` is how many steps of the run the roster has noted, and
+// `made` how many were made;
 fn catch_up<C: Channels + Lanes, D: Board<C>, B: Backend, R: Wait>(
     context: &Context<'_, R>,
     office: &Office<C, D, B>,
@@ -139,8 +148,9 @@ fn catch_up<C: Channels + Lanes, D: Board<C>, B: Backend, R: Wait>(
     Ok(())
 }
 
-// Notes that a step of the scanner, actor 0, was made: a scan or a tick, with this reply. If it was the scan, that is over: what it could not read
-// is kept for statuses, and lines are kept for standard error about the services for which it had no room in the tree (`full`).
+// Notes that a step of the scanner, actor 0, was made: a scan or a tick, with this reply. If it was
+// the scan, that is over: what it could not read is kept for statuses, and lines are kept for
+// standard error about the services for which it had no room in the tree (`full`).
 fn note_scanner<C: Channels + Lanes, R: Wait>(
     context: &Context<'_, R>,
     state: &mut DriverState<'_, C>,
@@ -156,8 +166,8 @@ fn note_scanner<C: Channels + Lanes, R: Wait>(
     state.scan = None;
     let lasting = &mut *state.lasting;
     if lasting.awaits_first {
-        // Requests of connections are begun only once the first scan is answered, as it is now. Those that rang before are looked for in one more
-        // round.
+        // Requests of connections are begun only once the first scan is answered, as it is now.
+        // Those that rang before are looked for in one more round.
         lasting.awaits_first = false;
         context.shared().driver.ring(context.rt);
     }

@@ -1,26 +1,27 @@
-//! What the driver, the thread that drives all runs of a tree, keeps for one run (`DriverState`), and from the first run to the last (`Lasting`).
+//! What the driver keeps for one run (`DriverState`), and from the first run to the last
+//! (`Lasting`).
 use channel_names::Channels;
-use client_desk::{ClientDesk, RunBoard};
+use client_desk::{Clients, RunBoard};
 use inbox::Seat;
 use locked_services::new_effect;
 use order_lanes::{Lanes, Report};
 use run_history::KnownHistory;
 use s6_events::{At, NoMemory};
-use scan_directory::{Found, Remark};
-use server_rules::{FullServices, LANE_COUNT, Pace, Plans, Post, SCANNER};
+use scan_directory::{FoundServices, Remark};
+use server_rules::{FullServices, LANE_LIMIT, Pace, Plans, Post, SCANNER};
 use server_threads::moment_of;
 use status_board::BoardReader;
 use std::alloc::Global;
 use tree_core::{Act, Effect};
 
-/// What goes on from one run to the next, beside the tree and its backends: the connections, the scans and ticks that are planned, and what is
-/// not handed in, posted or written yet.
+/// What goes on from one run to the next, beside the tree and its backends: the connections, the
+/// scans and ticks that are planned, and what is not handed in, posted or written yet.
 #[derive(Drop)]
 pub struct Lasting {
-    pub clients: ClientDesk,
+    pub clients: Clients,
     pub plans: Plans,
     /// The listing of the first scan, which is handed in before anything else; None once it is.
-    pub first_listing: Option<Found>,
+    pub first_listing: Option<FoundServices>,
     /// Whether the first scan isn't answered yet: nothing is begun for connections before.
     pub awaits_first: bool,
     /// What could not be read of the scan that is handed in.
@@ -31,8 +32,8 @@ pub struct Lasting {
     pub lines: Vec<u8>,
     /// By lane: the report that the lane's seat has not taken yet.
     pub kept: Vec<Option<Report>>,
-    /// What the last step gave: the driver reads each step's effect into it, so that all use the same memory. None before the first step,
-    /// and while it is taken out.
+    /// What the last step gave: the driver reads each step's effect into it, so that all use the
+    /// same memory. None before the first step, and while it is taken out.
     pub effect: Option<Box<Effect<Global>>>,
     /// The tree's clock after the last step that was handed out.
     pub clock: At,
@@ -41,44 +42,43 @@ pub struct Lasting {
 }
 
 impl Lasting {
-    /// What the first run begins with: nothing was handed in, and the first scan found this listing. `NoMemory` where memory is refused.
-    pub fn new(alloc: Global, first_listing: Found, has_record: bool) -> Result<Lasting, NoMemory> {
+    /// What the first run begins with: nothing was handed in, and the first scan found this
+    /// listing. `NoMemory` where memory is refused.
+    pub fn new(
+        alloc: Global,
+        first_listing: FoundServices,
+        has_record: bool,
+    ) -> Result<Lasting, NoMemory> {
         // By lane: the report that could not be handed in yet.
-        let mut kept = Vec::with_capacity(alloc, LANE_COUNT)?;
-        for _ in 0..LANE_COUNT {
+        let mut kept = Vec::with_capacity(alloc, LANE_LIMIT)?;
+        for _ in 0..LANE_LIMIT {
             kept.push(None)?;
         }
         Ok(Lasting {
             // The connections of clients, and what they ask. `has_record`: runs are recorded.
-            clients: ClientDesk::new(alloc, has_record)?,
-            // When the next tick is due, and who waits for a scan.
+            clients: Clients::new(alloc, has_record)?,
             plans: Plans::new(),
             first_listing: Some(first_listing),
-            // Nothing is begun for connections before the first scan is answered.
             awaits_first: true,
-            // What could not be read of the scan that is handed in.
             unread: Vec::new(alloc),
-            // The services for which the last scan had no room in the tree.
             full: FullServices::new(alloc),
-            // Lines for standard error that are still to be written.
             lines: Vec::new(alloc),
             kept,
-            // What the last step gave, kept for its memory: no step was made yet.
             effect: None,
-            // The tree's clock after the last step that was handed out.
             clock: At::zero(),
-            // The greatest moment of an input that was handed in.
             handed_in: 0,
         })
     }
 
-    /// Takes out the report of this lane that the lane's seat did not take; None where there is none.
+    /// Takes out the report of this lane that the lane's seat did not take; None where there is
+    /// none.
     pub fn take_kept(&mut self, lane: usize) -> Option<Report> {
         self.kept.get_mut(lane)?.take()
     }
 
-    /// Takes out `effect`, into which each step's result is read, or makes one where there is none. So all steps use the same memory: put it back
-    /// afterwards. `NoMemory` where memory is refused.
+    /// Takes out `effect`, into which each step's result is read, or makes one where there is none.
+    /// So all steps use the same memory: put it back afterwards. `NoMemory` where memory is
+    /// refused.
     pub fn take_effect(&mut self, alloc: Global) -> Result<Box<Effect<Global>>, NoMemory> {
         match self.effect.take() {
             Some(effect) => Ok(effect),
@@ -87,14 +87,16 @@ impl Lasting {
     }
 }
 
-/// What the driver keeps for a run: the seats at which it hands inputs in, the board from which statuses are told, how long the run
-/// is (`pace`), the scan that was handed in and isn't answered yet (`scan`), and, in `lasting`, what outlasts the run.
+/// What the driver keeps for a run: the seats at which it hands inputs in, the board from which
+/// statuses are told, how long the run is (`pace`), the scan that was handed in and isn't answered
+/// yet (`scan`), and, in `lasting`, what outlasts the run.
 #[derive(Drop)]
 pub struct DriverState<'a, C: Channels + Lanes> {
-    /// The seats at which inputs are handed in, by their actors. A seat here is the input end of an actor's ring, and no seat of a connection.
+    /// The seats at which inputs are handed in, by their actors.
     pub seats: Vec<Seat<C>>,
     pub board: RunBoard<C>,
-    /// The inputs of the run that are known so far. It exists for proofs alone; calls of the office make it longer.
+    /// The inputs of the run that are known so far. It exists for proofs alone; calls of the office
+    /// make it longer.
     pub known: KnownHistory<C>,
     pub lasting: &'a mut Lasting,
     pub pace: Pace,
@@ -122,11 +124,8 @@ impl<'a, C: Channels + Lanes> DriverState<'a, C> {
             known,
             lasting,
             pace,
-            // How many steps of the scanner were handed out.
             scans_and_ticks: 0,
-            // The number of the scan that isn't answered yet.
             scan: None,
-            // What is posted of a step; empty between two steps.
             posts: Vec::new(alloc),
         }
     }
@@ -136,8 +135,8 @@ impl<'a, C: Channels + Lanes> DriverState<'a, C> {
         self.scan == Some(self.scans_and_ticks.saturating_add(1))
     }
 
-    /// Hands in an act of this actor at the moment `now`, in milliseconds. Where its ring is full, or has taken as many inputs as it ever may,
-    /// the act comes back.
+    /// Hands in an act of this actor at the moment `now`, in milliseconds. Where its ring is full,
+    /// or has taken as many inputs as it ever may, the act comes back.
     pub fn hand_in(&mut self, actor: usize, now: u64, act: Act<Global>) -> Result<(), Act<Global>> {
         // The input end of this actor's ring.
         let Some(seat) = self.seats.get_mut(actor) else {
@@ -155,8 +154,9 @@ impl<'a, C: Channels + Lanes> DriverState<'a, C> {
         }
     }
 
-    /// Hands in a scan of what was found, at the moment `now`, in milliseconds. Returns whether the scanner's ring took it.
-    pub fn submit_scan(&mut self, now: u64, found: Found) -> bool {
+    /// Hands in a scan of what was found, at the moment `now`, in milliseconds. Returns whether the
+    /// scanner's ring took it.
+    pub fn submit_scan(&mut self, now: u64, found: FoundServices) -> bool {
         // The input end of the scanner's ring.
         let Some(seat) = self.seats.get(SCANNER) else {
             return false;
@@ -164,7 +164,7 @@ impl<'a, C: Channels + Lanes> DriverState<'a, C> {
         // The number of this scan among the inputs of the scanner, counted from 1.
         let number = seat.sent().saturating_add(1);
         // What is noted was told when the directory was read.
-        let Found {
+        let FoundServices {
             listing,
             remarks,
             ..

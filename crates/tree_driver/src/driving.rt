@@ -1,4 +1,5 @@
-//! The driver, the thread that drives all runs of a tree, at work on one: in rounds, it hands inputs in, makes steps, and hands out what they gave.
+//! The driver at work on one run: in rounds, it hands inputs in, makes steps, and hands out what
+//! they gave.
 use crate::delivery::deliver_all;
 use crate::driver_state::{DriverState, Lasting};
 use crate::lanes::{carry_all, hand_in_reports};
@@ -18,8 +19,9 @@ use tree_core::Act;
 /// How many steps are made before what they gave is handed out.
 const STEPS: u64 = 64;
 
-/// Drives a run to its end, round after round. A round hands in all that is asked, read, reported and due, makes the steps, hands out what
-/// they gave, and has the lanes carry. The services for which a scan had no room are told on `errors`.
+/// Drives a run to its end, round after round. A round hands in all that is asked, read, reported
+/// and due, makes the steps, hands out what they gave, and has the lanes carry. The services for
+/// which a scan had no room are told on `errors`.
 pub fn drive_run<C: Channels + Lanes, D: Board<C>, B: Backend, R: Wait + Clock, E: Write>(
     context: &Context<'_, R>,
     office: &Office<C, D, B>,
@@ -50,7 +52,8 @@ pub fn drive_run<C: Channels + Lanes, D: Board<C>, B: Backend, R: Wait + Clock, 
     RunEnd::Full
 }
 
-/// Writes the lines that still wait for standard error: they are about services for which a scan had no room.
+/// Writes the lines that still wait for standard error: they are about services for which a scan
+/// had no room.
 pub fn write_error_lines<E: Write>(lasting: &mut Lasting, errors: &mut E) {
     if !lasting.lines.is_empty() {
         let _ = errors.write_all(lasting.lines.as_slice());
@@ -58,9 +61,10 @@ pub fn write_error_lines<E: Write>(lasting: &mut Lasting, errors: &mut E) {
     }
 }
 
-/// Ends a round: wakes the connections to which something was posted, has the lanes carry orders, and returns what the round has found. It began
-/// at the moment `now`, in milliseconds; `halt` says why no further step was made, `is_open` whether the run took inputs, and `is_full` whether a
-/// ring was full before all reports were handed in. `state.known` is for proofs alone.
+/// Ends a round: wakes the connections to which something was posted, has the lanes carry orders,
+/// and returns what the round has found. It began at the moment `now`, in milliseconds; `halt` says
+/// why no further step was made, `is_open` whether the run took inputs, and `is_full` whether a
+/// ring was full before all reports were handed in.
 pub fn round_after<C: Channels + Lanes, D: Board<C>, B: Backend, R: Wait>(
     context: &Context<'_, R>,
     office: &Office<C, D, B>,
@@ -83,7 +87,8 @@ pub fn round_after<C: Channels + Lanes, D: Board<C>, B: Backend, R: Wait>(
         moment: now,
         is_open,
         is_full,
-        // A scan that was called for while another one was under way begins in the next round: nobody rings for it.
+        // A scan that was called for while another one was under way begins in the next round:
+        // nobody rings for it.
         has_more: state.lasting.clients.has_more_to_begin() || state.lasting.plans.is_called(),
         halt,
         has_ended: is_idle && office.ended(context.rt, &mut state.known),
@@ -92,7 +97,8 @@ pub fn round_after<C: Channels + Lanes, D: Board<C>, B: Backend, R: Wait>(
     }
 }
 
-// Hands in scans, ticks, and what connections ask. The first scan, of the listing that was read at the start, goes before all else.
+// Hands in scans, ticks, and what connections ask. The first scan, of the listing that was read at
+// the start, goes before all else.
 fn hand_in_all<C: Channels + Lanes, R: Wait>(
     context: &Context<'_, R>,
     state: &mut DriverState<'_, C>,
@@ -110,7 +116,8 @@ fn hand_in_all<C: Channels + Lanes, R: Wait>(
     }
     begin_all(context, state, now);
     hand_in_found(context, state, now);
-    // A connection waits for a scan, and none is under way: another thread is asked to read the directory.
+    // A connection waits for a scan, and none is under way: another thread is asked to read the
+    // directory.
     if state.lasting.plans.is_called() {
         state.lasting.plans.begin_scan();
         context.shared().scans.ask(context.rt);
@@ -118,17 +125,19 @@ fn hand_in_all<C: Channels + Lanes, R: Wait>(
     hand_in_due(state, now);
 }
 
-/// Hands in a tick, which lets the timers and deadlines that are due go off, if one is wanted at this moment, in milliseconds.
+/// Hands in a tick, which lets the timers and deadlines that are due go off, if one is wanted at
+/// this moment, in milliseconds.
 pub fn hand_in_due<C: Channels + Lanes>(state: &mut DriverState<'_, C>, now: u64) {
     if state.lasting.plans.wanted(now) == Wanted::Tick {
-        // The tick is handed in now. If the ring is full, `round_after` looks again for what is due, after the steps that fill it.
+        // The tick is handed in now. If the ring is full, `round_after` looks again for what is
+        // due, after the steps that fill it.
         state.lasting.plans.due = None;
         let _ = state.hand_in(SCANNER, now, Act::Tick);
     }
 }
 
-// Hands in the listing that another thread has read of the scan directory, if there is one; or tells those that asked for the scan why there is
-// none.
+// Hands in the listing that another thread has read of the scan directory, if there is one; or
+// tells those that asked for the scan why there is none.
 fn hand_in_found<C: Channels + Lanes, R: Wait>(
     context: &Context<'_, R>,
     state: &mut DriverState<'_, C>,
@@ -141,12 +150,13 @@ fn hand_in_found<C: Channels + Lanes, R: Wait>(
     let Some(reason) = refusal_of(state, now, found) else {
         return;
     };
-    for seat in state.lasting.plans.end_scan().as_slice() {
-        state.lasting.clients.refuse_errand(context, *seat, reason);
+    for slot in state.lasting.plans.end_scan().as_slice() {
+        state.lasting.clients.refuse_errand(context, *slot, reason);
     }
 }
 
-// Hands in a scan of what was found. Returns why there is no scan, which is told to those that asked for it; None where it was handed in.
+// Hands in a scan of what was found. Returns why there is no scan, which is told to those that
+// asked for it; None where it was handed in.
 fn refusal_of<C: Channels + Lanes>(
     state: &mut DriverState<'_, C>,
     now: u64,
@@ -159,8 +169,8 @@ fn refusal_of<C: Channels + Lanes>(
     }
 }
 
-/// Makes all steps that can be made, and hands out what they gave. Returns why no further step was made. The office makes the steps, and shows the
-/// rows of the services on the board. `state.known` is for proofs alone.
+/// Makes all steps that can be made, and hands out what they gave. Returns why no further step was
+/// made. The office makes the steps, and shows the rows of the services on the board.
 pub fn drive_some<C: Channels + Lanes, D: Board<C>, B: Backend, R: Wait>(
     context: &Context<'_, R>,
     office: &Office<C, D, B>,
@@ -169,13 +179,15 @@ pub fn drive_some<C: Channels + Lanes, D: Board<C>, B: Backend, R: Wait>(
     for _ in context.rt.forever() {
         let driven = office.drive(context.rt, &mut state.known, STEPS);
         if driven.steps > 0 {
-            // From now on the board's reader gives no rows that are older than those which were shown last.
+            // From now on the board's reader gives no rows that are older than those which were
+            // shown last.
             let told = office.tell(context.rt, &mut state.known);
             state.board.reader.learn(told);
         }
         note_steps(context, state, driven);
         if driven.stop == DriveStop::Idle {
-            // Every input is done, so the tree's clock, which statuses and `clock` tell, is at the greatest moment that was handed in.
+            // Every input is done, so the tree's clock, which statuses and `clock` tell, is at the
+            // greatest moment that was handed in.
             state.lasting.clients.now = state.lasting.handed_in;
         }
         if !deliver_all(context, office, state) {
@@ -194,8 +206,9 @@ pub fn drive_some<C: Channels + Lanes, D: Board<C>, B: Backend, R: Wait>(
     Halt::Idle
 }
 
-// Brings up to date what statuses are told from, after the steps of one call of `drive`: how many steps were made, whether the board shows the
-// last of them, and the rows that were read of the board before, which are no longer fresh.
+// Brings up to date what statuses are told from, after the steps of one call of `drive`: how many
+// steps were made, whether the board shows the last of them, and the rows that were read of the
+// board before, which are no longer fresh.
 fn note_steps<C: Channels + Lanes, R: Wait>(
     context: &Context<'_, R>,
     state: &mut DriverState<'_, C>,
@@ -210,7 +223,8 @@ fn note_steps<C: Channels + Lanes, R: Wait>(
     }
 }
 
-/// Waits until somebody rings the driver's bell, since there is something to do, but at most so many milliseconds where a number is given.
+/// Waits until somebody rings the driver's bell, since there is something to do, but at most so
+/// many milliseconds where a number is given.
 pub fn wait_for_bell<R: Wait + Clock>(context: &Context<'_, R>, time: Option<u64>) {
     let bell = &context.shared().driver;
     match time {

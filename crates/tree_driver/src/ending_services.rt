@@ -1,4 +1,5 @@
-//! The end of a tree that can't go on, since its run was not recorded: its services are told to end, and waited for.
+//! The end of a tree that can't go on, since its run was not recorded: its services are told to
+//! end, and waited for.
 use crate::driver_state::DriverState;
 use crate::driving::{drive_some, hand_in_due, round_after, wait_for_bell};
 use crate::lanes::hand_in_reports;
@@ -15,8 +16,9 @@ use tree_core::{Act, ScanOrder};
 /// How long services may take to end before they get SIGKILL, in milliseconds.
 const END_WAIT: u64 = 10_000;
 
-/// Tells all services to end, as `svscanctl -t` does, and goes on with their reports, timers and orders until the tree has ended or the run
-/// takes no step more, but for at most 10,000 ms. What connections ask meanwhile is not begun.
+/// Tells all services to end, as `svscanctl -t` does, and goes on with their reports, timers and
+/// orders until the tree has ended or the run takes no step more, but for at most 10,000 ms. What
+/// connections ask meanwhile is not begun.
 pub fn end_services<C: Channels + Lanes, D: Board<C>, B: Backend, R: Wait + Clock>(
     context: &Context<'_, R>,
     office: &Office<C, D, B>,
@@ -24,9 +26,11 @@ pub fn end_services<C: Channels + Lanes, D: Board<C>, B: Backend, R: Wait + Cloc
 ) {
     let clock = context.shared().clock;
     let begun = clock.millis(context.rt);
-    // Those who wait for a scan are dropped: no scan is begun any more, and a scan that is asked for would go before each tick.
+    // Those who wait for a scan are dropped: no scan is begun any more, and a scan that is asked
+    // for would go before each tick.
     state.lasting.plans.askers.clear();
-    // The order `-t` is the next input. All inputs of the run are done, so the ring has room for it.
+    // The order `-t` is the next input. All inputs of the run are done, so the ring has room for
+    // it.
     let _ = state.hand_in(SCANNER, begun, Act::Scanctl(ScanOrder::Terminate));
     for _ in context.rt.forever() {
         let now = clock.millis(context.rt);

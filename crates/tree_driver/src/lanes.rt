@@ -1,25 +1,26 @@
-//! The lanes, as the driver sees them: each is a queue of orders to a thread that starts and signals programs, and gives back reports of them.
+//! The lanes, as the driver sees them: each is a queue of orders to a thread that starts and
+//! signals programs, and gives back reports of them.
 use crate::driver_state::DriverState;
 use channel_names::Channels;
 use office::Office;
 use order_lanes::{Backend, Carried, Lanes, Report, act_of};
-use server_rules::{Carrying, FIRST_LANE, LANE_COUNT};
+use server_rules::{Carrying, FIRST_LANE, LANE_LIMIT};
 use server_threads::Context;
 use status_board::Board;
 use std::sync::Wait;
 
 /// The most orders that a lane carries before the next one gets its turn.
-const ORDERS: u64 = 256;
+const ORDERS_A_TURN: u64 = 256;
 
-/// Has each lane carry at most 256 orders: these are handed over to the lane's thread. Returns whether one may have more to carry, and which lanes
-/// take no order now.
+/// Has each lane carry at most 256 orders: these are handed over to the lane's thread. Returns
+/// whether one may have more to carry, and which lanes take no order now.
 pub fn carry_all<C: Channels + Lanes, D: Board<C>, B: Backend, R: Wait>(
     context: &Context<'_, R>,
     office: &Office<C, D, B>,
 ) -> Carrying {
     let mut carrying = Carrying::new();
     for lane in 0..office.lanes() {
-        match office.carry(context.rt, lane, ORDERS) {
+        match office.carry(context.rt, lane, ORDERS_A_TURN) {
             // It carried 256 orders, and further ones may be left.
             Carried::Asked => carrying.has_more = true,
             // No order is left.
@@ -33,8 +34,9 @@ pub fn carry_all<C: Channels + Lanes, D: Board<C>, B: Backend, R: Wait>(
     carrying
 }
 
-/// Hands in the reports of all lanes at their seats. A report that a seat doesn't take, since its ring is full, is kept for the next call. Returns
-/// whether there was such a report. The moment is in milliseconds.
+/// Hands in the reports of all lanes at their seats. A report that a seat doesn't take, since its
+/// ring is full, is kept for the next call. Returns whether there was such a report. The moment is
+/// in milliseconds.
 pub fn hand_in_reports<C: Channels + Lanes, D: Board<C>, B: Backend, R: Wait>(
     context: &Context<'_, R>,
     office: &Office<C, D, B>,
@@ -42,11 +44,12 @@ pub fn hand_in_reports<C: Channels + Lanes, D: Board<C>, B: Backend, R: Wait>(
     now: u64,
 ) -> bool {
     let mut is_full = false;
-    for lane in 0..LANE_COUNT {
+    for lane in 0..LANE_LIMIT {
         for _ in 0..u64::MAX {
             // A report that an earlier call could not hand in goes first.
             let kept = state.lasting.take_kept(lane);
-            // Else the lane's next report. `LANE_COUNT` is the most; an office may have fewer lanes.
+            // Else the lane's next report. `LANE_LIMIT` is the most; an office may have fewer
+            // lanes.
             let next = if kept.is_some() || lane >= office.lanes() {
                 kept
             } else {

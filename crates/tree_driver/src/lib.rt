@@ -1,5 +1,6 @@
-//! The driver, the thread that drives the runs of a tree, one after the other: it hands in what is asked, read, reported and due, makes the
-//! steps, hands out what they gave, has the lanes carry, and records and closes each run.
+//! The driver, the thread that drives the runs of a tree, one after the other: it hands in what is
+//! asked, read, reported and due, makes the steps, hands out what they gave, has the lanes carry,
+//! and records and closes each run. What is `known` of a run is for proofs alone.
 #![tactic(auto)]
 
 mod delivery;

@@ -1,4 +1,5 @@
-//! When a run, the steps between two handovers, is recorded: at its end, which comes early where somebody waits for a record.
+//! When a run, the steps between two handovers, is recorded: at its end, which comes early where
+//! somebody waits for a record.
 use crate::driver_state::DriverState;
 use crate::driving::{drive_run, write_error_lines};
 use crate::ending_services::end_services;
@@ -14,8 +15,9 @@ use std::io::Write;
 use std::sync::Wait;
 use std::time::Clock;
 
-// Drives a run to its end, and records it. Returns how the tree has ended; None where the next run follows. Where the record fails at a
-// handover, the tree can't go on: its services are told to end, and waited for, before that is returned.
+// Drives a run to its end, and records it. Returns how the tree has ended; None where the next run
+// follows. Where the record fails at a handover, the tree can't go on: its services are told to
+// end, and waited for, before that is returned.
 pub(crate) fn drive_to_end<
     C: Channels + Lanes,
     D: Board<C>,
@@ -48,8 +50,9 @@ pub(crate) fn drive_to_end<
     }
 }
 
-// Records the run, and tells the connections that wait for it, which `context` reaches. Where memory is refused it is tried again; what
-// connections ask meanwhile is refused. `Record` where the run can't be written. `state.known` is for proofs alone.
+// Records the run, and tells the connections that wait for it, which `context` reaches. Where
+// memory is refused it is tried again; what connections ask meanwhile is refused. `Record` where
+// the run can't be written.
 fn record<C: Channels + Lanes, D: Board<C>, B: Backend, R: Wait + Clock, W: RecordWriter + Drop>(
     context: &Context<'_, R>,
     office: &Office<C, D, B>,

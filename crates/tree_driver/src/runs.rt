@@ -1,4 +1,5 @@
-//! The runs of a tree, one after the other. A run is the steps between two handovers, and has an office of its own, which makes them.
+//! The runs of a tree, one after the other. A run is the steps between two handovers, and has an
+//! office of its own, which makes them.
 ghost use Rattle.std.specs.Prelude.{◌≡◌, ℕ, slice_get};
 ghost use Rattle.office.specs.Names.{ring_of, lane_ring_of, asked_of};
 
@@ -12,7 +13,7 @@ use log::{Log, info};
 use office::{NewOffice, Office, OpenFault, Opened};
 use order_lanes::{Backend, Lanes};
 use run_recorder::{RecordWriter, Recorder};
-use scan_directory::Found;
+use scan_directory::FoundServices;
 use server_rules::{ACTOR_COUNT, Pace, RETRY_WAIT, ServeFault};
 use server_threads::Context;
 use status_board::Board;
@@ -49,14 +50,15 @@ enum AfterRun<B: Drop> {
     Next(Between<B>),
 }
 
-/// Runs a tree from its first scan to its end, one run after the other. Each new run is noted by `log`.
+/// Runs a tree from its first scan to its end, one run after the other. Each new run is noted by
+/// `log`.
 pub fn run_all<B: Backend, R: Wait + Clock + Copy + Drop, W: RecordWriter + Drop, E: Write, L: Log>(
     context: &Context<'_, R>,
     settings: &mut RunSettings<W>,
     errors: &mut E,
     log: &L,
     backends: Vec<B>,
-    first_listing: Found,
+    first_listing: FoundServices,
 ) -> Result<(), ServeFault> {
     let alloc = context.alloc();
     // What outlasts each run, beside the tree and the backends: above all the connections.
@@ -80,7 +82,8 @@ fn first_tree<B: Drop>(alloc: Global, backends: Vec<B>) -> Option<Between<B>> {
     Some(Between { tree, backends })
 }
 
-// Makes one run, of the tree in `between`, where it leaves what the next run begins with. Returns how the tree has ended; None where it goes on.
+// Makes one run, of the tree in `between`, where it leaves what the next run begins with. Returns
+// how the tree has ended; None where it goes on.
 fn run_next<B: Backend, R: Wait + Clock + Copy + Drop, W: RecordWriter + Drop, E: Write, L: Log>(
     context: &Context<'_, R>,
     settings: &mut RunSettings<W>,
@@ -116,8 +119,9 @@ fn run_once<B: Backend, R: Wait + Clock + Copy + Drop, W: RecordWriter + Drop, E
     before: Between<B>,
     lasting: &mut Lasting,
 ) -> AfterRun<B> {
-    // `Brand` names the run's rings and its board, for the proof alone. An office that can't be made gives the tree and the backends back, and
-    // `wait_or_end` says what comes then: the end of the tree, or another try.
+    // `Brand` names the run's rings and its board, for the proof alone. An office that can't be
+    // made gives the tree and the backends back, and `wait_or_end` says what comes then: the end of
+    // the tree, or another try.
     match NewOffice::new(context.alloc(), before.tree, ACTOR_COUNT, before.backends) {
         Ok(office) => run_named::<B, Brand, R, W, E>(context, settings, errors, office, lasting),
         Err((fault, tree, backends)) => {
@@ -126,8 +130,9 @@ fn run_once<B: Backend, R: Wait + Clock + Copy + Drop, W: RecordWriter + Drop, E
     }
 }
 
-// What comes where an office was not made or opened. Before the first run that ends the tree. Between two runs, where memory or the board's
-// reader was refused, the next run is tried again a little later; what connections ask meanwhile is refused. `unmade` has all for that run.
+// What comes where an office was not made or opened. Before the first run that ends the tree.
+// Between two runs, where memory or the board's reader was refused, the next run is tried again a
+// little later; what connections ask meanwhile is refused. `unmade` has all for that run.
 fn wait_or_end<B: Drop, R: Wait + Clock>(
     context: &Context<'_, R>,
     fault: OpenFault,
@@ -148,14 +153,16 @@ fn wait_or_end<B: Drop, R: Wait + Clock>(
     }
 }
 
-// Answers what connections ask by `refused NoMemory`, and waits until the driver's bell rings, but at most 100 ms.
+// Answers what connections ask by `refused NoMemory`, and waits until the driver's bell rings, but
+// at most 100 ms.
 pub(crate) fn refuse_and_wait<R: Wait + Clock>(context: &Context<'_, R>, lasting: &mut Lasting) {
     lasting.clients.refuse_all(context);
     wait_for_bell(context, Some(RETRY_WAIT));
 }
 
-// Opens the office, and runs it. The type `C` names the run's rings and its board, for the proof alone. Where the office can't be opened,
-// `wait_or_end` says what comes then. `lasting` is what outlasts a run: the clients, and what the next run begins with.
+// Opens the office, and runs it. The type `C` names the run's rings and its board, for the proof
+// alone. Where the office can't be opened, `wait_or_end` says what comes then. `lasting` is what
+// outlasts a run: the clients, and what the next run begins with.
 fn run_named<
     B: Backend,
     C: Channels + Lanes,
@@ -184,8 +191,9 @@ fn run_named<
     }
 }
 
-// Runs an open office. The memory for recording and closing the run is taken first. `seats` are where inputs are handed in, `readers` read the
-// board, which shows the services' rows, and `known` is for proofs alone. Where the next run follows (`None`), the office is closed.
+// Runs an open office. The memory for recording and closing the run is taken first. `seats` are
+// where inputs are handed in, `readers` read the board. Where the next run follows (`None`), the
+// office is closed.
 fn run_opened<
     C: Channels + Lanes,
     D: Board<C>,
@@ -213,18 +221,20 @@ fn run_opened<
     // The steps of the run are counted from 1 again.
     lasting.clients.notes.begin_run();
     // An empty list with room for what each seat gives at the end of the run.
-    let finish_room = take_memory(context, lasting, &mut settings.recorder);
-    // The pace says when the run takes inputs, and when it ends, by how many steps a run is to have (`handover`).
+    let spare_finishes = take_memory(context, lasting, &mut settings.recorder);
+    // The pace says when the run takes inputs, and when it ends, by how many steps a run is to have
+    // (`handover`).
     let pace = Pace::new(settings.handover);
     let mut state = DriverState::new(context.alloc(), seats, reader, known, lasting, pace);
     match drive_to_end(context, settings, errors, &office, &mut state) {
-        None => close(context, office, state, finish_room),
+        None => close(context, office, state, spare_finishes),
         Some(done) => AfterRun::Over(done),
     }
 }
 
-// Takes the memory that recording and closing a run need, and tries again until there is some; what connections ask meanwhile is refused.
-// Returns an empty list with room for what each seat gives when it is finished at the end of the run.
+// Takes the memory that recording and closing a run need, and tries again until there is some; what
+// connections ask meanwhile is refused. Returns an empty list with room for what each seat gives
+// when it is finished at the end of the run.
 fn take_memory<C: Channels, R: Wait + Clock, W: RecordWriter + Drop>(
     context: &Context<'_, R>,
     lasting: &mut Lasting,
@@ -234,8 +244,8 @@ fn take_memory<C: Channels, R: Wait + Clock, W: RecordWriter + Drop>(
     for _ in context.rt.forever() {
         // This sets aside the memory for recording.
         if recorder.prepare().is_ok() {
-            if let Ok(finish_room) = Vec::with_capacity(alloc, ACTOR_COUNT) {
-                return finish_room;
+            if let Ok(spare_finishes) = Vec::with_capacity(alloc, ACTOR_COUNT) {
+                return spare_finishes;
             }
         }
         refuse_and_wait(context, lasting);
@@ -244,15 +254,16 @@ fn take_memory<C: Channels, R: Wait + Clock, W: RecordWriter + Drop>(
     Vec::new(alloc)
 }
 
-// Finishes every seat, and closes the office, in which nothing is left to be done. `finish_room` is an empty list with room for what each seat
-// gives when it is finished. Returns what the next run begins with; `Close` where the office can't be closed.
+// Finishes every seat, and closes the office, in which nothing is left to be done. `spare_finishes`
+// is an empty list with room for what each seat gives when it is finished. Returns what the next
+// run begins with; `Close` where the office can't be closed.
 fn close<C: Channels + Lanes, D: Board<C>, B: Backend, R: Wait>(
     context: &Context<'_, R>,
     office: Office<C, D, B>,
     state: DriverState<'_, C>,
-    finish_room: Vec<Finished<C>>,
+    spare_finishes: Vec<Finished<C>>,
 ) -> AfterRun<B> {
-    let mut finishes = finish_room;
+    let mut finishes = spare_finishes;
     for seat in state.seats {
         // There is room for each.
         let _ = finishes.push(seat.finish());
@@ -267,7 +278,8 @@ fn close<C: Channels + Lanes, D: Board<C>, B: Backend, R: Wait>(
                 ..
             },
         ) => {
-            // The thread that reads the scan directory drops this run. An earlier one that it has not taken yet is dropped here.
+            // The thread that reads the scan directory drops this run. An earlier one that it has
+            // not taken yet is dropped here.
             let _before = context.shared().scans.leave_run(context.rt, run);
             AfterRun::Next(Between { tree, backends })
         }

@@ -1,13 +1,14 @@
-//! Which program the first word behind the program's name names. Clients are the tools that talk to a server.
+//! Which program the first word behind the program's name names. Clients are the tools that talk to
+//! a server.
 ghost use Rattle.std.specs.Prelude.{◌≡◌, codes, false, true};
 ghost use Rattle.std.specs.Str.{bytes_eq};
-ghost use Rattle.tree_front.specs.declared.asked.Program.TheVariants as program;
+ghost use Rattle.tree_front.specs.declared.asked.NamedProgram.TheVariants as program;
 
 use s6_tools::{Tool, tool_named};
 
 /// Which program a first word names.
 #[derive(Clone, Copy, Debug, PartialEq, Eq)]
-pub enum Program {
+pub enum NamedProgram {
     /// `svscan`.
     Svscan,
     /// `svcheck`.
@@ -27,30 +28,30 @@ pub enum Program {
 }
 
 /// Which program this word names.
-pub fn program_named(word: &str) -> Program
+pub fn program_named(word: &str) -> NamedProgram
     ensures server { bytes_eq word.now (codes "svscan") ≡ true → result ≡ program.Svscan }
     ensures only { result ≡ program.Svscan → bytes_eq word.now (codes "svscan") ≡ true }
 {
     if word == "svscan" {
-        return Program::Svscan;
+        return NamedProgram::Svscan;
     }
     match tool_named(word) {
-        Some(tool) => Program::Client(tool),
+        Some(tool) => NamedProgram::Client(tool),
         None => own_program_named(word),
     }
 }
 
 // Which program this word names, if it is neither the server nor a client.
-fn own_program_named(word: &str) -> Program
+fn own_program_named(word: &str) -> NamedProgram
     ensures { result ≡ program.Svscan → bytes_eq word.now (codes "svscan") ≡ true }
 {
     match word {
-        "svcheck" => Program::Svcheck,
-        "connect" => Program::Connect,
-        "replay" => Program::Replay,
-        "--version" => Program::Version,
-        "help" | "--help" | "-h" => Program::Help,
-        _ => Program::Strange,
+        "svcheck" => NamedProgram::Svcheck,
+        "connect" => NamedProgram::Connect,
+        "replay" => NamedProgram::Replay,
+        "--version" => NamedProgram::Version,
+        "help" | "--help" | "-h" => NamedProgram::Help,
+        _ => NamedProgram::Strange,
     }
 }
 

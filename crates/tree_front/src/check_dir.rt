@@ -1,7 +1,7 @@
 //! `svcheck`: what svscan would do with each entry of a scan directory. It starts nothing.
 use crate::no_memory::tell_no_memory;
-use s6_tools::{Told, add_escaped};
-use scan_directory::{Found, read_listing};
+use s6_tools::{FaultText, add_escaped};
+use scan_directory::{FoundServices, read_listing};
 use std::alloc::{AllocError, Global};
 use std::io::{self, Write};
 use std::rt::Files;
@@ -17,8 +17,9 @@ const SYSTEM_STATUS: u8 = 111;
 /// How many bytes of a path are told.
 const PATH_BYTES: usize = 107;
 
-/// Reads a scan directory, and says of each entry what svscan would do. The exit status: 0 where nothing is refused and nothing noted, so that
-/// all runs as it is written, else 1; 111 where the directory can't be read, memory is refused, or the report can't be written.
+/// Reads a scan directory, and says of each entry what svscan would do. The exit status: 0 where
+/// nothing is refused and nothing noted, so that all runs as it is written, else 1; 111 where the
+/// directory can't be read, memory is refused, or the report can't be written.
 pub fn check_directory<R: Files + Copy + Drop, W: Write, E: Write>(
     rt: &R,
     alloc: Global,
@@ -40,16 +41,18 @@ pub fn check_directory<R: Files + Copy + Drop, W: Write, E: Write>(
     }
 }
 
-// The report on all entries, and whether something is refused or noted. The error is `OutOfMemory` where memory is refused,
-// `InvalidData` where a line of a script can't say what is in the directory, and another where the directory can't be read.
+// The report on all entries, and whether something is refused or noted. The error is `OutOfMemory`
+// where memory is refused, `InvalidData` where a line of a script can't say what is in the
+// directory, and another where the directory can't be read.
 fn report_of<R: Files + Copy + Drop>(
     rt: &R,
     alloc: Global,
     directory: &str,
 ) -> io::Result<(Vec<u8>, bool)> {
     let mut told = Vec::new(alloc);
-    // `told` gets what svscan would write on standard error; only the bad names are taken from it. A remark says why a directory can't be used.
-    let Found {
+    // `told` gets what svscan would write on standard error; only the bad names are taken from it.
+    // A remark says why a directory can't be used.
+    let FoundServices {
         listing,
         remarks,
         notes,
@@ -73,8 +76,8 @@ fn sorted_entries(alloc: Global, entries: &[Entry]) -> Result<Vec<Entry>, AllocE
     Ok(sorted)
 }
 
-// Prints the report of `svcheck`. The exit status: 1 where `is_wrong`, so something is refused or noted, else 0; 111 where the report can't be
-// written, which is told on `errors`.
+// Prints the report of `svcheck`. The exit status: 1 where `is_wrong`, so something is refused or
+// noted, else 0; 111 where the report can't be written, which is told on `errors`.
 fn print_report<W: Write, E: Write>(
     text: &[u8],
     is_wrong: bool,
@@ -96,10 +99,11 @@ fn tell_failure<E: Write>(lines: &[u8], errors: &mut E) -> u8 {
     SYSTEM_STATUS
 }
 
-// Tells two lines about the directory, by one write: the one for programs says `directory`, the one for people names it, and ends with the
-// sentence. A part that doesn't fit is left out. The exit status, 111.
+// Tells two lines about the directory, by one write: the one for programs says `directory`, the one
+// for people names it, and ends with the sentence. A part that doesn't fit is left out. The exit
+// status, 111.
 fn tell_directory<E: Write>(sentence: &[u8], directory: &str, errors: &mut E) -> u8 {
-    let mut told = Told::new();
+    let mut told = FaultText::new();
     let _ = told.try_extend_from_slice(b"svcheck: directory\nsvcheck: ");
     let _ = add_escaped(&mut told, PATH_BYTES, directory.as_bytes());
     let _ = told.try_extend_from_slice(sentence);

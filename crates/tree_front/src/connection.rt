@@ -1,6 +1,7 @@
-//! `connect`: sends standard input to a server, and writes what the server sends to standard output.
+//! `connect`: sends standard input to a server, and writes what the server sends to standard
+//! output.
 use arrayvec::CapacityError;
-use s6_tools::{Told, add_escaped};
+use s6_tools::{FaultText, add_escaped};
 use std::io::{self, ErrorKind, Read, Write};
 use std::net::{Net, Shutdown};
 use std::os::unix::net::UnixStream;
@@ -30,8 +31,9 @@ enum ConnectFault {
     Write,
 }
 
-// The fault where copying from the connection to standard output failed by an error of this kind. The error doesn't say which of the two
-// failed: an error of these three kinds is taken for one of the connection, any other for one of standard output.
+// The fault where copying from the connection to standard output failed by an error of this kind.
+// The error doesn't say which of the two failed: an error of these three kinds is taken for one of
+// the connection, any other for one of standard output.
 fn fault_of(kind: ErrorKind) -> ConnectFault {
     match kind {
         ErrorKind::ConnectionReset | ErrorKind::ConnectionAborted | ErrorKind::TimedOut => {
@@ -41,8 +43,9 @@ fn fault_of(kind: ErrorKind) -> ConnectFault {
     }
 }
 
-// Sends `input` to the socket at this path, and writes what the server sends to `output`, until the server ends the connection. Nobody
-// joins the thread that sends, since it may wait for input for ever.
+// Sends `input` to the socket at this path, and writes what the server sends to `output`, until the
+// server ends the connection. Nobody joins the thread that sends, since it may wait for input for
+// ever.
 fn converse<R: Net + Threads, I: Read + Send + Drop + 'static, W: Write>(
     rt: &R,
     path: &str,
@@ -67,8 +70,9 @@ fn converse<R: Net + Threads, I: Read + Send + Drop + 'static, W: Write>(
     }
 }
 
-// Adds the two lines that tell why `connect` failed, one for programs and one for people. `path` is that of the server's socket.
-fn add_lines(told: &mut Told, path: &str, fault: ConnectFault) -> Result<(), CapacityError> {
+// Adds the two lines that tell why `connect` failed, one for programs and one for people. `path` is
+// that of the server's socket.
+fn add_lines(told: &mut FaultText, path: &str, fault: ConnectFault) -> Result<(), CapacityError> {
     match fault {
         ConnectFault::Socket => {
             told.try_extend_from_slice(b"connect: socket\nconnect: ")?;
@@ -84,8 +88,9 @@ fn add_lines(told: &mut Told, path: &str, fault: ConnectFault) -> Result<(), Cap
     }
 }
 
-/// Sends `input` to the socket at this path, and writes what the server sends to `output`, until the server ends the connection. The exit
-/// status: 0, or 111 after a failure, which is told on `errors` by two lines in one write.
+/// Sends `input` to the socket at this path, and writes what the server sends to `output`, until
+/// the server ends the connection. The exit status: 0, or 111 after a failure, which is told on
+/// `errors` by two lines in one write.
 pub fn run_connection<R: Net + Threads, I: Read + Send + Drop + 'static, W: Write, E: Write>(
     rt: &R,
     path: &str,
@@ -96,7 +101,7 @@ pub fn run_connection<R: Net + Threads, I: Read + Send + Drop + 'static, W: Writ
     let Err(fault) = converse(rt, path, input, output) else {
         return 0;
     };
-    let mut told = Told::new();
+    let mut told = FaultText::new();
     let _ = add_lines(&mut told, path, fault);
     let _ = errors.write_all(told.as_slice());
     SYSTEM_STATUS

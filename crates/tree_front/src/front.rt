@@ -1,7 +1,8 @@
-//! What the words of the command line ask for. A client, a check or a help text is done here; a tree, a connection or a replay is left to the caller.
+//! What the words of the command line ask for. A client, a check or a help text is done here; a
+//! tree, a connection or a replay is left to the caller.
 ghost use Rattle.std.specs.Prelude.{◌≡◌};
 
-use crate::asked::{Program, asks_help, program_named};
+use crate::asked::{NamedProgram, asks_help, program_named};
 use crate::check_dir::check_directory;
 use crate::help::{print_help, print_help_of, refuse_tool};
 use crate::help_text::{CONNECT_HELP, SVCHECK_HELP, SVSCAN_HELP};
@@ -43,9 +44,10 @@ pub enum Asked {
     Replay,
 }
 
-/// Does what the command line asks for, with these outputs; a tree, a connection or a replay is left to the caller. Where something was not
-/// done, one line on `errors` says why, and a second one what would be right. Where memory for the words is refused a replay is done all
-/// the same, since it needs none for them.
+/// Does what the command line asks for, with these outputs; a tree, a connection or a replay is
+/// left to the caller. Where something was not done, one line on `errors` says why, and a second
+/// one what would be right. Where memory for the words is refused a replay is done all the same,
+/// since it needs none for them.
 pub fn run_words<R: Env + Net + Files + Processes + Clock + Copy + Drop, W: Write, E: Write>(
     rt: &R,
     alloc: Global,
@@ -62,11 +64,11 @@ pub fn run_words<R: Env + Net + Files + Processes + Clock + Copy + Drop, W: Writ
         Err(_) => return refuse_program(rt, alloc, errors),
     };
     match program_of(words.as_slice()) {
-        Program::Svscan => read_place(words, output, errors),
-        Program::Connect => read_socket(words, output, errors),
+        NamedProgram::Svscan => read_place(words, output, errors),
+        NamedProgram::Connect => read_socket(words, output, errors),
         // The tool of `replay` also tells the version.
-        Program::Replay | Program::Version => Asked::Replay,
-        Program::Strange => {
+        NamedProgram::Replay | NamedProgram::Version => Asked::Replay,
+        NamedProgram::Strange => {
             let word = words.get(1).map(|word| word.as_str());
             Asked::Done(refuse_tool(word, errors))
         }
@@ -82,15 +84,15 @@ pub fn run_words<R: Env + Net + Files + Processes + Clock + Copy + Drop, W: Writ
 fn run_program<R: Env + Net + Files + Processes + Clock + Copy + Drop, W: Write, E: Write>(
     rt: &R,
     alloc: Global,
-    program: Program,
+    program: NamedProgram,
     words: &[&str],
     output: &mut W,
     errors: &mut E,
 ) -> u8 {
     match program {
-        Program::Client(tool) => run_client(rt, alloc, tool, words, output, errors),
-        Program::Svcheck => run_check(rt, alloc, words, output, errors),
-        // `Program::Help`: the caller has done all others.
+        NamedProgram::Client(tool) => run_client(rt, alloc, tool, words, output, errors),
+        NamedProgram::Svcheck => run_check(rt, alloc, words, output, errors),
+        // `NamedProgram::Help`: the caller has done all others.
         _ => print_help_of(words, output, errors),
     }
 }
@@ -104,33 +106,34 @@ fn words_of<R: Env>(rt: &R, alloc: Global) -> io::Result<Vec<String>> {
     Ok(words)
 }
 
-// The program that the command line asks for, by its second word; the first is the program's own name. Strange where there is no second
-// word, or a third one behind `--version`.
-fn program_of(words: &[String]) -> Program {
+// The program that the command line asks for, by its second word; the first is the program's own
+// name. Strange where there is no second word, or a third one behind `--version`.
+fn program_of(words: &[String]) -> NamedProgram {
     match words {
         [_, word] => program_named(word.as_str()),
         [_, word, ..] => match program_named(word.as_str()) {
-            Program::Version => Program::Strange,
+            NamedProgram::Version => NamedProgram::Strange,
             program => program,
         },
-        _ => Program::Strange,
+        _ => NamedProgram::Strange,
     }
 }
 
 // The name under which a fault of a program is told.
-fn name_of(program: Program) -> &'static str {
+fn name_of(program: NamedProgram) -> &'static str {
     match program {
-        Program::Svscan => "svscan",
-        Program::Svcheck => "svcheck",
-        Program::Connect => "connect",
-        Program::Client(tool) => tool.name(),
+        NamedProgram::Svscan => "svscan",
+        NamedProgram::Svcheck => "svcheck",
+        NamedProgram::Connect => "connect",
+        NamedProgram::Client(tool) => tool.name(),
         _ => "s6_tree",
     }
 }
 
-// What is done where memory for the words was refused. The word behind the program's name decides alone, if there is memory for that one.
-// Where it names a program that needs all words, the refusal of memory is told. All else is left to `replay_tool`, which takes no memory for
-// the words.
+// What is done where memory for the words was refused. The word behind the program's name decides
+// alone, if there is memory for that one. Where it names a program that needs all words, the
+// refusal of memory is told. All else is left to `replay_tool`, which takes no memory for the
+// words.
 fn refuse_program<R: Env, E: Write>(rt: &R, alloc: Global, errors: &mut E) -> Asked {
     let Ok(word) = first_word(rt, alloc) else {
         return Asked::Done(tell_no_memory("s6_tree", errors));
@@ -140,9 +143,10 @@ fn refuse_program<R: Env, E: Write>(rt: &R, alloc: Global, errors: &mut E) -> As
     };
     let program = program_named(word.as_str());
     match program {
-        Program::Svscan | Program::Svcheck | Program::Connect | Program::Client(_) => {
-            Asked::Done(tell_no_memory(name_of(program), errors))
-        }
+        NamedProgram::Svscan
+        | NamedProgram::Svcheck
+        | NamedProgram::Connect
+        | NamedProgram::Client(_) => { Asked::Done(tell_no_memory(name_of(program), errors)) }
         _ => Asked::Replay,
     }
 }
@@ -198,7 +202,8 @@ fn run_check<R: Files + Copy + Drop, W: Write, E: Write>(
     }
 }
 
-// Reads the words behind `svscan`: a place, or `--help`. Others are refused. The first two of `words` are the program's name and `svscan`.
+// Reads the words behind `svscan`: a place, or `--help`. Others are refused. The first two of
+// `words` are the program's name and `svscan`.
 fn read_place<W: Write, E: Write>(words: Vec<String>, output: &mut W, errors: &mut E) -> Asked {
     match words.as_slice() {
         [_, _, word] if asks_help(word.as_str()) => {
@@ -220,7 +225,8 @@ fn read_place<W: Write, E: Write>(words: Vec<String>, output: &mut W, errors: &m
     }
 }
 
-// Reads the words behind `connect`: a socket, or `--help`. Others are refused. The first two of `words` are the program's name and `connect`.
+// Reads the words behind `connect`: a socket, or `--help`. Others are refused. The first two of
+// `words` are the program's name and `connect`.
 fn read_socket<W: Write, E: Write>(words: Vec<String>, output: &mut W, errors: &mut E) -> Asked {
     match words.as_slice() {
         [_, _, word] if asks_help(word.as_str()) => {
@@ -254,16 +260,18 @@ fn read_socket<W: Write, E: Write>(words: Vec<String>, output: &mut W, errors: &
     }
 }
 
-// The name of the first of these words that is empty: an unset variable between quotes would else name the root of the file system. None where none
-// is. The first two of `words` are the program's name and `svscan`.
+// The name of the first of these words that is empty: an unset variable between quotes would else
+// name the root of the file system. None where none is. The first two of `words` are the program's
+// name and `svscan`.
 fn empty_place(words: &[String]) -> Option<&'static str> {
     let places = ["DIRECTORY", "SOCKET", "RECORD"];
     let empty = words.iter().skip(2).position(|word| word.is_empty())?;
     places.get(empty).copied()
 }
 
-// The scan directory, the socket and the record; None where the words are too few or too many. The first two of `words` are the program's name
-// and `svscan`. The directory and the socket follow, and then the path of the record, if there is to be one.
+// The scan directory, the socket and the record; None where the words are too few or too many. The
+// first two of `words` are the program's name and `svscan`. The directory and the socket follow,
+// and then the path of the record, if there is to be one.
 fn place_of(words: Vec<String>) -> Option<TreePlace> {
     let mut words = words;
     if words.len() < 4 || words.len() > 5 {

@@ -1,13 +1,14 @@
-//! Printing help texts, and what is told of a word that names no program: a line for programs, and one for people.
+//! Printing help texts, and what is told of a word that names no program: a line for programs, and
+//! one for people.
 ghost use Rattle.std.specs.Prelude.{◌≡◌, ◌++◌, IfOk, option_map};
 ghost use Rattle.tree_front.specs.Usage.{strange_text, strange_words, tools_words};
 
-use crate::asked::{Program, program_named};
+use crate::asked::{NamedProgram, program_named};
 use crate::help_text::{CONNECT_HELP, SVCHECK_HELP, SVSCAN_HELP};
 use crate::usage::refuse_words;
 use arrayvec::CapacityError;
 use replay_tool::{HELP, REPLAY_HELP};
-use s6_tools::{Misuse, Told, add_named, help_of};
+use s6_tools::{FaultText, Misuse, add_named, help_of};
 use std::io::Write;
 
 /// The exit status for wrong usage.
@@ -19,7 +20,8 @@ const HELP_FORM: &str = "help [TOOL]";
 /// The status of a program to which the system refused something.
 const SYSTEM_STATUS: u8 = 111;
 
-/// Prints a help text of this program. The exit status: 0, or 111 where it can't be written, which is told on `errors` by two lines.
+/// Prints a help text of this program. The exit status: 0, or 111 where it can't be written, which
+/// is told on `errors` by two lines.
 pub fn print_help<W: Write, E: Write>(
     program: &str,
     text: &[u8],
@@ -29,7 +31,7 @@ pub fn print_help<W: Write, E: Write>(
     if output.write_all(text).is_ok() && output.flush().is_ok() {
         return 0;
     }
-    let mut lines = Told::new();
+    let mut lines = FaultText::new();
     let _ = lines.try_extend_from_slice(program.as_bytes());
     let _ = lines.try_extend_from_slice(b": write\n");
     let _ = lines.try_extend_from_slice(program.as_bytes());
@@ -40,30 +42,34 @@ pub fn print_help<W: Write, E: Write>(
     SYSTEM_STATUS
 }
 
-/// Prints the help text that the words behind `help` name: that of a program, or the overview without a word. The exit status: as of
-/// `print_help`, or 100 where a word names no program, or there is more than one.
+/// Prints the help text that the words behind `help` name: that of a program, or the overview
+/// without a word. The exit status: as of `print_help`, or 100 where a word names no program, or
+/// there is more than one.
 pub fn print_help_of<W: Write, E: Write>(words: &[&str], output: &mut W, errors: &mut E) -> u8 {
     match words {
         [] => print_help("s6_tree", HELP, output, errors),
         [word] => match program_named(word) {
-            Program::Svscan => print_help("svscan", SVSCAN_HELP.as_bytes(), output, errors),
-            Program::Svcheck => print_help("svcheck", SVCHECK_HELP.as_bytes(), output, errors),
-            Program::Connect => print_help("connect", CONNECT_HELP.as_bytes(), output, errors),
-            Program::Replay => print_help("replay", REPLAY_HELP, output, errors),
-            Program::Client(tool) => print_help(
+            NamedProgram::Svscan => print_help("svscan", SVSCAN_HELP.as_bytes(), output, errors),
+            NamedProgram::Svcheck => print_help("svcheck", SVCHECK_HELP.as_bytes(), output, errors),
+            NamedProgram::Connect => print_help("connect", CONNECT_HELP.as_bytes(), output, errors),
+            NamedProgram::Replay => print_help("replay", REPLAY_HELP, output, errors),
+            NamedProgram::Client(tool) => print_help(
                 tool.name(),
                 help_of(tool).as_bytes(),
                 output,
                 errors,
             ),
-            Program::Version | Program::Help => print_help("s6_tree", HELP, output, errors),
-            Program::Strange => refuse_tool(Some(*word), errors),
+            NamedProgram::Version | NamedProgram::Help => {
+                print_help("s6_tree", HELP, output, errors)
+            }
+            NamedProgram::Strange => refuse_tool(Some(*word), errors),
         },
         [_, word, ..] => { refuse_words("help", Misuse::TooMany, Some(*word), HELP_FORM, errors) }
     }
 }
 
-/// Tells that this word names no program, or that there is no word, by one write. The exit status, 100.
+/// Tells that this word names no program, or that there is no word, by one write. The exit status,
+/// 100.
 pub fn refuse_tool<E: Write>(word: Option<&str>, errors: &mut E) -> u8
     ensures { result ≡ 100 }
 {
@@ -73,7 +79,8 @@ pub fn refuse_tool<E: Write>(word: Option<&str>, errors: &mut E) -> u8
     USAGE_STATUS
 }
 
-// The text before a word that names no program: the first line, for programs, and the beginning of the second one.
+// The text before a word that names no program: the first line, for programs, and the beginning of
+// the second one.
 #[tactic(auto, unfolding(crate::specs::Usage::strange_words))]
 fn strange_words() -> &'static str
     ensures { result.now ≡ strange_words }
@@ -81,7 +88,8 @@ fn strange_words() -> &'static str
     "s6_tree: unknown tool\ns6_tree: "
 }
 
-// The text behind a word that names no program: what is wrong with it, and the command that lists the tools.
+// The text behind a word that names no program: what is wrong with it, and the command that lists
+// the tools.
 #[tactic(auto, unfolding(crate::specs::Usage::tools_words))]
 fn tools_words() -> &'static str
     ensures { result.now ≡ tools_words }
@@ -89,12 +97,13 @@ fn tools_words() -> &'static str
     " is no tool; see s6_tree --help\n"
 }
 
-// The two lines about this word of the command line, which names no program. `strange_words` has the first line, for programs, and begins the
-// second one, for people, which names the word. `word` is None where the command line has no such word.
-fn told_of(word: Option<&str>) -> Result<Told, CapacityError>
+// The two lines about this word of the command line, which names no program. `strange_words` has
+// the first line, for programs, and begins the second one, for people, which names the word. `word`
+// is None where the command line has no such word.
+fn told_of(word: Option<&str>) -> Result<FaultText, CapacityError>
     ensures { IfOk result (λ told. told.items ≡ strange_text (option_map (λ w. w.now) word.entry)) }
 {
-    let mut told = Told::new();
+    let mut told = FaultText::new();
     told.try_extend_from_slice(strange_words().as_bytes())?;
     add_named(&mut told, b"no word", word)?;
     told.try_extend_from_slice(tools_words().as_bytes())?;

@@ -1,4 +1,5 @@
-//! Signals that whoever started svscan had it ignore: services inherit that, and svscan can't change it.
+//! Signals that whoever started svscan had it ignore: services inherit that, and svscan can't
+//! change it.
 ghost use Rattle.std.specs.Prelude.{◌≡◌, ◌≤◌, ◌-◌};
 ghost use Rattle.tree_front.specs.IgnoredSignals.{is_ignored};
 
@@ -71,7 +72,8 @@ pub fn is_child_ignored(mask: u64) -> bool
     is_ignored(mask, SIGCHLD)
 }
 
-/// Tells by one line each which of TERM, HUP and INT are ignored, what that means, and how svscan is started without.
+/// Tells by one line each which of TERM, HUP and INT are ignored, what that means, and how svscan
+/// is started without.
 pub fn tell_ignored<E: Write>(mask: u64, errors: &mut E) {
     for (signal, line) in LINES {
         if is_ignored(mask, signal.clamp(1, 64)) {

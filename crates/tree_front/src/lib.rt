@@ -1,4 +1,5 @@
-//! What the words of the program ask for: a tool or a check that is done here, a replay, or a tree that is to run.
+//! What the words of the program ask for: a tool or a check that is done here, a replay, or a tree
+//! that is to run.
 #![tactic(auto)]
 
 mod asked;

@@ -1,4 +1,5 @@
-//! Standard error, where it is a file whose size the system limits: whoever writes behind that limit is killed (SIGXFSZ).
+//! Standard error, where it is a file whose size the system limits: whoever writes behind that
+//! limit is killed (SIGXFSZ).
 use run_recorder::file_size_limit;
 use std::alloc::Global;
 use std::fs::{self, File};
@@ -8,8 +9,8 @@ use std::rt::Files;
 /// Standard error as this process has it.
 const STANDARD_ERROR: &str = "/proc/self/fd/2";
 
-/// A writer of standard error that refuses what the file has no room for. The limit and the file's length are looked at before each write, since
-/// both may change.
+/// A writer of standard error that refuses what the file has no room for. The limit and the file's
+/// length are looked at before each write, since both may change.
 #[derive(Drop)]
 pub struct LimitedErrors<R, E> {
     rt: R,
@@ -38,7 +39,8 @@ impl<R: Files<File = File>, E: Write> Write for LimitedErrors<R, E> {
     }
 }
 
-// Whether standard error may get so many bytes more: it is no regular file, or stays within the limit of a file's size.
+// Whether standard error may get so many bytes more: it is no regular file, or stays within the
+// limit of a file's size.
 fn has_room<R: Files<File = File>>(rt: &R, alloc: Global, count: u64) -> bool {
     let Some(limit) = file_size_limit(rt, alloc) else {
         return true;

@@ -6,14 +6,14 @@ ghost use Rattle.tree_front.specs.NoMemory.{no_memory_text};
 
 use arrayvec::CapacityError;
 use s6_replay::write_whole;
-use s6_tools::Told;
+use s6_tools::FaultText;
 use std::io::Write;
 
 /// The status of a program to which the system refused something.
 const SYSTEM_STATUS: u8 = 111;
 
-/// Tells by two lines that the system refused this program memory. Where they can't be written whole, only their beginning is. Returns the
-/// exit status, 111.
+/// Tells by two lines that the system refused this program memory. Where they can't be written
+/// whole, only their beginning is. Returns the exit status, 111.
 pub fn tell_no_memory<E: Write>(program: &str, errors: &mut E) -> u8
     ensures status { result ≡ 111 }
     ensures lines { Appends (E.contents errors.old) (E.contents errors.new)
@@ -27,11 +27,12 @@ pub fn tell_no_memory<E: Write>(program: &str, errors: &mut E) -> u8
     SYSTEM_STATUS
 }
 
-// The two lines that tell that the system refused this program memory: `no memory` is for programs, the sentence is for people.
-fn no_memory_lines(program: &str) -> Result<Told, CapacityError>
+// The two lines that tell that the system refused this program memory: `no memory` is for programs,
+// the sentence is for people.
+fn no_memory_lines(program: &str) -> Result<FaultText, CapacityError>
     ensures { IfOk result (λ told. told.items ≡ no_memory_text program.now) }
 {
-    let mut told = Told::new();
+    let mut told = FaultText::new();
     add_line(&mut told, program, ": no memory\n")?;
     add_line(
         &mut told,
@@ -42,7 +43,7 @@ fn no_memory_lines(program: &str) -> Result<Told, CapacityError>
 }
 
 // Adds the line of a program.
-fn add_line(told: &mut Told, program: &str, line: &str) -> Result<(), CapacityError>
+fn add_line(told: &mut FaultText, program: &str, line: &str) -> Result<(), CapacityError>
     ensures { OnOk result (told.new.items ≡ told.old.items ++ (program.now ++ line.now)) }
 {
     told.try_extend_from_slice(program.as_bytes())?;

@@ -13,7 +13,8 @@ pub struct TreePlace {
 }
 
 impl TreePlace {
-    /// The options of a tree at this place. The next run goes on after `handover` steps. Without a record its runs are not recorded.
+    /// The options of a tree at this place. The next run goes on after `handover` steps. Without a
+    /// record its runs are not recorded.
     pub fn options(&self, handover: u64) -> ServeOptions<'_> {
         ServeOptions {
             directory: self.directory.as_str(),

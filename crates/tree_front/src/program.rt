@@ -1,4 +1,5 @@
-//! The program. What its words ask for is done here, except that the caller runs a tree: it is begun and ended here.
+//! The program. What its words ask for is done here, except that the caller runs a tree: it is
+//! begun and ended here.
 use crate::connection::run_connection;
 use crate::descriptors::open_standard;
 use crate::front::{Asked, run_words};
@@ -33,8 +34,8 @@ pub struct Standard<I: Read + Drop, W: Write + Drop, E: Write + Drop> {
     pub notes_output: E,
 }
 
-/// A tree that is to run: its place, its lanes, the keeper of its children, the notes for standard error, and the probe of the shell by
-/// which signals are sent.
+/// A tree that is to run: its place, its lanes, the keeper of its children, the notes for standard
+/// error, and the probe of the shell by which signals are sent.
 #[derive(Drop)]
 pub struct BegunTree<R: Drop> {
     pub place: TreePlace,
@@ -54,7 +55,8 @@ struct TreeParts<R: Drop> {
 }
 
 impl<R: Drop> TreeParts<R> {
-    // The tree that is to run: these parts, and `place`, which names its scan directory, its socket and its record.
+    // The tree that is to run: these parts, and `place`, which names its scan directory, its socket
+    // and its record.
     fn at(self, place: TreePlace) -> BegunTree<R> {
         let TreeParts {
             lanes,
@@ -81,8 +83,9 @@ pub enum Begun<R: Drop> {
     Tree(BegunTree<R>),
 }
 
-/// Does what the words of the command line ask for; a tree is only begun. `run_words` does all but a replay, a connection and a tree, and says
-/// which of these is left to do: `run_tool` does a replay, and tells the version. Before anything else is opened, each of the descriptors 0, 1 and
+/// Does what the words of the command line ask for; a tree is only begun. `run_words` does all but
+/// a replay, a connection and a tree, and says which of these is left to do: `run_tool` does a
+/// replay, and tells the version. Before anything else is opened, each of the descriptors 0, 1 and
 /// 2 that is closed is opened as `/dev/null`.
 pub fn begin_program<
     R: Env
@@ -130,7 +133,8 @@ pub fn begin_program<
     }
 }
 
-// All that a tree needs before it runs. `Thread` where a thread can't be started, `NoMemory` where memory for the lanes is refused.
+// All that a tree needs before it runs. `Thread` where a thread can't be started, `NoMemory` where
+// memory for the lanes is refused.
 fn begin_tree<
     R: Processes<Started = SystemProcess>
         + Threads
@@ -166,8 +170,9 @@ fn begin_tree<
     }
 }
 
-/// Ends a tree that was run at this place: kills the services that still live, tells why the tree did not run to its end, and waits at most
-/// 1,000 ms until all notes are written. The exit status: 0, or 111 where it did not run to its end.
+/// Ends a tree that was run at this place: kills the services that still live, tells why the tree
+/// did not run to its end, and waits at most 1,000 ms until all notes are written. The exit status:
+/// 0, or 111 where it did not run to its end.
 pub fn end_program<R: Processes + Files + Threads + Wait + Clock + Drop>(
     rt: &R,
     place: &TreePlace,

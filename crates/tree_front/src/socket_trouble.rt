@@ -1,11 +1,12 @@
-//! What is told of a tree that did not run to its end: the line of its fault, and a second one that says what was wrong.
+//! What is told of a tree that did not run to its end: the line of its fault, and a second one that
+//! says what was wrong.
 ghost use Rattle.std.specs.Prelude.{◌≡◌, ◌++◌, OnOk};
 ghost use Rattle.s6_tools.specs.Told.{escaped};
 ghost use Rattle.tree_front.specs.SocketTrouble.{trouble_before, before_of, second_line};
 
 use crate::place::TreePlace;
 use arrayvec::{ArrayString, CapacityError};
-use s6_tools::{Told, add_escaped};
+use s6_tools::{FaultText, add_escaped};
 use std::fs;
 use std::io::Write;
 use std::os::unix::fs::FileTypeExt;
@@ -15,7 +16,8 @@ use tree_server::{ServeFault, tell_serve_fault};
 /// How many bytes of a path are told.
 const PATH_BYTES: usize = 107;
 
-/// How many bytes the path of a server's socket has at most: it is made at PATH.new/s, and the system takes at most 107 bytes.
+/// How many bytes the path of a server's socket has at most: it is made at PATH.new/s, and the
+/// system takes at most 107 bytes.
 const LONGEST_SOCKET: usize = 101;
 
 /// Why no socket can be made at a path, as far as can be seen afterwards.
@@ -40,7 +42,8 @@ fn folder_beside(path: &str) -> Option<ArrayString<PATH_BYTES>> {
     Some(folder)
 }
 
-// Whether a file that is no folder is at PATH.new, where the folder would be in which the socket is made.
+// Whether a file that is no folder is at PATH.new, where the folder would be in which the socket is
+// made.
 fn is_taken<R: Files>(rt: &R, path: &str) -> bool {
     let Some(folder) = folder_beside(path) else {
         return false;
@@ -80,8 +83,8 @@ fn trouble_before(trouble: Trouble) -> &'static str
     }
 }
 
-// What the second line says of a fault, up to the path that it is about; all of it where it is about none. `trouble` is why no socket could be
-// made, where that is the fault.
+// What the second line says of a fault, up to the path that it is about; all of it where it is
+// about none. `trouble` is why no socket could be made, where that is the fault.
 fn before_of(fault: ServeFault, trouble: Trouble) -> &'static str
     ensures { result.now ≡ before_of fault trouble }
 {
@@ -113,10 +116,11 @@ fn path_of<'a>(fault: ServeFault, place: &'a TreePlace) -> &'a str {
     }
 }
 
-// Adds the second line about the fault by which a tree did not run to its end, the one for people. `path` is the path that the fault is
-// about, and `trouble` why no socket could be made, where that is the fault.
+// Adds the second line about the fault by which a tree did not run to its end, the one for people.
+// `path` is the path that the fault is about, and `trouble` why no socket could be made, where that
+// is the fault.
 fn add_second_line(
-    told: &mut Told,
+    told: &mut FaultText,
     fault: ServeFault,
     trouble: Trouble,
     path: &str,
@@ -139,7 +143,7 @@ pub fn tell_fault<R: Files, E: Write>(
 ) -> u8
     ensures { result ≡ 111 }
 {
-    let mut told = Told::new();
+    let mut told = FaultText::new();
     // The line of the fault, for programs.
     let status = tell_serve_fault(fault, &mut told);
     // It is told only where the fault is that of the socket.

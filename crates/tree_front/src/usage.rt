@@ -1,16 +1,18 @@
-//! What is told of wrong words behind `svscan`, `svcheck`, `connect` or `help`: a line for programs, and one for people.
+//! What is told of wrong words behind `svscan`, `svcheck`, `connect` or `help`: a line for
+//! programs, and one for people.
 ghost use Rattle.std.specs.Prelude.{◌≡◌, ◌++◌, IfOk, OnOk, option_map};
 ghost use Rattle.tree_front.specs.Usage.{advice_text, complaint_of, complaint_text, program_text, usage_text, word_text};
 
 use arrayvec::CapacityError;
-use s6_tools::{Misuse, Told, add_named, help_words, see_words};
+use s6_tools::{FaultText, Misuse, add_named, help_words, see_words};
 use std::io::Write;
 
 /// The exit status for wrong usage.
 const USAGE_STATUS: u8 = 100;
 
-/// Tells by one write that the words behind a program's name are wrong, which word is, if one is, and what would be right. Of an empty word, `word`
-/// is the name of its place, as `SOCKET`. The exit status, 100.
+/// Tells by one write that the words behind a program's name are wrong, which word is, if one is,
+/// and what would be right. Of an empty word, `word` is the name of its place, as `SOCKET`. The
+/// exit status, 100.
 pub fn refuse_words<E: Write>(
     program: &str,
     misuse: Misuse,
@@ -26,8 +28,8 @@ pub fn refuse_words<E: Write>(
     USAGE_STATUS
 }
 
-// What the second line says behind the wrong word, or behind `a word`: that it is missing, one too many, or empty. `refuse_words` is called
-// for these three alone.
+// What the second line says behind the wrong word, or behind `a word`: that it is missing, one too
+// many, or empty. `refuse_words` is called for these three alone.
 fn complaint_of(misuse: Misuse) -> &'static str
     ensures { result.now ≡ complaint_of misuse }
 {
@@ -38,26 +40,28 @@ fn complaint_of(misuse: Misuse) -> &'static str
     }
 }
 
-// The two lines about wrong words. `add_first_line` makes the one for programs and begins the one for people; `add_complaint` adds to this what is
-// wrong, and `add_advice` what would be right. `word` is the wrong word, if one is, and `form` how the words have to be given.
+// The two lines about wrong words. `add_first_line` makes the one for programs and begins the one
+// for people; `add_complaint` adds to this what is wrong, and `add_advice` what would be right.
+// `word` is the wrong word, if one is, and `form` how the words have to be given.
 fn told_of(
     program: &str,
     misuse: Misuse,
     word: Option<&str>,
     form: &str,
-) -> Result<Told, CapacityError>
+) -> Result<FaultText, CapacityError>
     ensures { IfOk result (λ told. told.items
         ≡ usage_text program.now misuse (option_map (λ w. w.now) word.entry) form.now) }
 {
-    let mut told = Told::new();
+    let mut told = FaultText::new();
     add_first_line(&mut told, program)?;
     add_complaint(&mut told, misuse, word)?;
     add_advice(&mut told, program, form)?;
     Ok(told)
 }
 
-// Adds the first line, for programs, which says `usage`, and the name of the program with which the second line begins, the one for people.
-fn add_first_line(told: &mut Told, program: &str) -> Result<(), CapacityError>
+// Adds the first line, for programs, which says `usage`, and the name of the program with which the
+// second line begins, the one for people.
+fn add_first_line(told: &mut FaultText, program: &str) -> Result<(), CapacityError>
     ensures { OnOk result (told.new.items ≡ told.old.items ++ program_text program.now) }
 {
     told.try_extend_from_slice(program.as_bytes())?;
@@ -67,7 +71,11 @@ fn add_first_line(told: &mut Told, program: &str) -> Result<(), CapacityError>
 }
 
 // Adds to the second line what is wrong with the words: one is missing, or `word` is one too many.
-fn add_complaint(told: &mut Told, misuse: Misuse, word: Option<&str>) -> Result<(), CapacityError>
+fn add_complaint(
+    told: &mut FaultText,
+    misuse: Misuse,
+    word: Option<&str>,
+) -> Result<(), CapacityError>
     ensures { OnOk result (told.new.items
         ≡ told.old.items ++ complaint_text misuse (option_map (λ w. w.now) word.entry)) }
 {
@@ -78,7 +86,7 @@ fn add_complaint(told: &mut Told, misuse: Misuse, word: Option<&str>) -> Result<
 }
 
 // Adds the wrong word; of one that is empty, its place is told, as `SOCKET`.
-fn add_word(told: &mut Told, misuse: Misuse, word: Option<&str>) -> Result<(), CapacityError>
+fn add_word(told: &mut FaultText, misuse: Misuse, word: Option<&str>) -> Result<(), CapacityError>
     ensures { OnOk result (told.new.items
         ≡ told.old.items ++ word_text misuse (option_map (λ w. w.now) word.entry)) }
 {
@@ -88,9 +96,9 @@ fn add_word(told: &mut Told, misuse: Misuse, word: Option<&str>) -> Result<(), C
     }
 }
 
-// Adds to the second line what would be right, and the command that prints the help text. `form` is how the words have to be given, as
-// `svcheck DIRECTORY`.
-fn add_advice(told: &mut Told, program: &str, form: &str) -> Result<(), CapacityError>
+// Adds to the second line what would be right, and the command that prints the help text. `form` is
+// how the words have to be given, as `svcheck DIRECTORY`.
+fn add_advice(told: &mut FaultText, program: &str, form: &str) -> Result<(), CapacityError>
     ensures { OnOk result (told.new.items ≡ told.old.items ++ advice_text program.now form.now) }
 {
     told.try_extend_from_slice(b": ")?;

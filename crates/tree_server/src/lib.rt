@@ -1,5 +1,8 @@
-//! A tree that runs. Its threads live from its first run to its last: one, the driver, drives all runs, each lane has one, one reads the
-//! scan directory, one accepts connections, and each connection has two; `threads.rt` lists the others.
+//! A tree that runs. Its threads live from its first run to its last: the driver, which makes the
+//! tree's steps, one for each lane, one that reads the scan directory, one that accepts
+//! connections, and two for each connection; `threads.rt` lists the others. A lane is a queue of
+//! orders to a thread that starts and signals processes; notes are lines for standard error, which
+//! another thread writes.
 #![tactic(auto)]
 
 mod options;

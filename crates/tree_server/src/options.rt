@@ -1,7 +1,7 @@
 //! Where a tree runs, and how long its runs are.
 
-/// After how many steps of a run the next one goes on, at most. A run has room for more steps: what was handed in until then is still done
-/// in it.
+/// After how many steps of a run the next one goes on, at most. A run has room for more steps: what
+/// was handed in until then is still done in it.
 pub const HANDOVER: u64 = 260_000;
 
 /// Where a tree runs, and how long its runs are.

@@ -2,7 +2,7 @@
 use Rattle.std.specs.Prelude.{ℕ, List, Bool, ◌==◌, ◌+◌, ◌-◌, nat_lt, is_some, count_by, if◌then◌else◌}
 use Rattle.s6_events.specs.declared.condition.Mode.{Mode}
 use Rattle.s6_events.specs.declared.condition.Mode.TheVariants as mode
-use Rattle.wait_conditions.specs.declared.counts.Counts.{Counts}
+use Rattle.wait_conditions.specs.declared.counts.ServiceCounts.{ServiceCounts}
 use Rattle.wait_conditions.specs.declared.verdict.Verdict.TheVariants.{Held, Failed, Gone, TimedOut}
 use Rattle.wait_conditions.specs.declared.verdict.WaitState.{WaitState}
 use Rattle.wait_conditions.specs.declared.verdict.WaitState.TheVariants.{Waiting, Released}
@@ -10,7 +10,7 @@ use Rattle.wait_conditions.specs.declared.watched_service.WatchedService.{Watche
 use Rattle.wait_conditions.specs.Verdict.{is_failure_for_good}
 
 -- of how many services the condition holds, of how many it fails, and of how many of these for good
-abbrev pub counts_of : List WatchedService → Counts
+abbrev pub counts_of : List WatchedService → ServiceCounts
 counts_of ws = record {
   holding = count_by (λ w. w.holds) ws;
   failing = count_by (λ w. is_some w.failure) ws;
@@ -28,7 +28,7 @@ count_is_hopeless mode.All services failing = nat_lt 0 failing
 count_is_hopeless mode.One services failing = failing == services
 
 -- the verdict by the counters of the services, where the deadline has come or not
-abbrev pub verdict_by : Mode → ℕ → Counts → Bool → WaitState
+abbrev pub verdict_by : Mode → ℕ → ServiceCounts → Bool → WaitState
 verdict_by mode services counts late =
     if count_is_enough mode services counts.holding then Released Held
     else if count_is_hopeless mode services counts.failing then
@@ -41,7 +41,7 @@ abbrev pub recounted : ℕ → Bool → Bool → ℕ
 recounted count was now = (count + (if now then 1 else 0)) - (if was then 1 else 0)
 
 -- the counters once one service has changed
-abbrev pub counts_after : Counts → WatchedService → WatchedService → Counts
+abbrev pub counts_after : ServiceCounts → WatchedService → WatchedService → ServiceCounts
 counts_after counts was now = record {
   holding = recounted counts.holding was.holds now.holds;
   failing = recounted counts.failing (is_some was.failure) (is_some now.failure);

@@ -1,11 +1,12 @@
-//! Whether a condition holds of a service. Its current letter, the newest of its marks u, U, d and D, says whether it is up, ready or down. When a
-//! condition fails is in `condition_fails.rt`.
+//! Whether a condition holds of a service. Its current letter, the newest of its marks u, U, d and
+//! D, says whether it is up, ready or down. When a condition fails is in `condition_fails.rt`.
 ghost use Rattle.std.specs.Prelude.{◌≡◌};
 ghost use Rattle.wait_conditions.specs.Holds.{suits, holds_at};
 
 use s6_events::{Condition, Mark};
 
-// Whether a service with this current letter is as the condition asks, apart from whether it was started since the waiter was made.
+// Whether a service with this current letter is as the condition asks, apart from whether it was
+// started since the waiter was made.
 fn letter_suits(condition: Condition, letter: Mark) -> bool
     ensures { result ≡ suits condition letter }
 {
@@ -17,7 +18,8 @@ fn letter_suits(condition: Condition, letter: Mark) -> bool
     }
 }
 
-/// Whether a condition holds of a service with this current letter. `spawned`: it was started since the waiter was made.
+/// Whether a condition holds of a service with this current letter. `spawned`: it was started since
+/// the waiter was made.
 pub fn condition_holds(condition: Condition, letter: Mark, spawned: bool) -> bool
     ensures { result ≡ holds_at condition letter spawned }
 {

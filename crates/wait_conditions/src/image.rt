@@ -11,8 +11,8 @@ use s6_events::{Condition, Mode, NoMemory, WaitId};
 use std::alloc::Allocator;
 use std::marker::Model;
 
-/// A waiter as plain data: what it was made with, how many moments had come by then, what it knows of its services while it waits, and
-/// its state.
+/// A waiter as plain data: what it was made with, how many moments had come by then, what it knows
+/// of its services while it waits, and its state.
 #[derive(Drop)]
 pub struct WaiterImage<A: Allocator> {
     pub id: WaitId,
@@ -42,8 +42,8 @@ impl<A: Allocator> Model for WaiterImage<A> {
     } };
 }
 
-/// The waiters as plain data: how many moments came, what is known of every service, the waiters in rising serial, and the serial of the
-/// next one. A clause sees it as what the waiters show.
+/// The waiters as plain data: how many moments came, what is known of every service, the waiters in
+/// rising serial, and the serial of the next one. A clause sees it as what the waiters show.
 #[derive(Drop)]
 pub struct WaitsImage<A: Allocator> {
     pub count: u64,
@@ -60,8 +60,8 @@ impl<A: Allocator> Model for WaitsImage<A> {
     ghost view = { λ w. record { count = w.count; states = w.states.items; waiters = w.waiters.items; next = w.next } };
 }
 
-// A waiter as plain data: what it was made with, what it knows of its services, and its state (`standing`). `place` is how many moments had come
-// when it was made.
+// A waiter as plain data: what it was made with, what it knows of its services, and its state
+// (`standing`). `place` is how many moments had come when it was made.
 fn image_of<A: Allocator + Copy>(alloc: A, waiter: &Waiter) -> Result<WaiterImage<A>, NoMemory>
     ensures { IfOk result (λ image. image ≡ waiter_view waiter.now) }
 {

@@ -1,4 +1,5 @@
-//! Waiters for conditions of services: each is released at the first moment at which its verdict is no longer waiting.
+//! Waiters for conditions of services: each is released at the first moment at which its verdict is
+//! no longer waiting.
 #![tactic(auto)]
 
 mod add_fault;

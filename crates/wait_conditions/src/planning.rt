@@ -1,5 +1,6 @@
-//! A step of the waiters, worked out on copies of those that its moments (clock readings, and marks of services) touch: they wait, and a mark is of
-//! one of their services or the clock reaches their deadline.
+//! A step of the waiters, worked out on copies of those that its moments (clock readings, and marks
+//! of services) touch: they wait, and a mark is of one of their services or the clock reaches their
+//! deadline.
 ghost use Rattle.std.specs.Prelude.{◌≡◌, ◌++◌, [], ◌∷◌, All, map, filter, if◌then◌else◌, IfOk, OnOk, IsOk};
 ghost use Rattle.s6_events.specs.Rising.{AreRising};
 ghost use Rattle.wait_conditions.specs.Kept.{waiter_view, with_moments, releases_seen};
@@ -14,7 +15,8 @@ use crate::watchers::{Watcher, Watchers};
 use s6_events::{Moment, NoMemory, Sid, WaitId};
 use std::alloc::Allocator;
 
-// Adds a copy of this waiter. It is a function of its own: inlined, a step that copies none would fill a place for one in its frame.
+// Adds a copy of this waiter. It is a function of its own: inlined, a step that copies none would
+// fill a place for one in its frame.
 #[inline(never)]
 fn push_copy<A: Allocator>(copies: &mut Vec<Waiter, A>, waiter: &Waiter) -> Result<(), NoMemory>
     requires waiter { IsCounted waiter.now }
@@ -64,7 +66,8 @@ fn copy_among_all<A: Allocator>(
     Ok(copies)
 }
 
-// Copies of the waiters that watch this service; `watchers` has their serials, which rise, as those of `waiters` do.
+// Copies of the waiters that watch this service; `watchers` has their serials, which rise, as those
+// of `waiters` do.
 fn copy_watching<A: Allocator>(
     alloc: A,
     waiters: &[Waiter],
@@ -91,9 +94,9 @@ fn copy_watching<A: Allocator>(
     Ok(copies)
 }
 
-/// Copies of the waiters that these moments touch: those that wait, where a moment is a mark of one of their services or reaches their deadline.
-/// `reach_of` tells which may be touched: none, those that `watchers` lists for one service, or any. No waiter that waits has a deadline before
-/// `due`.
+/// Copies of the waiters that these moments touch: those that wait, where a moment is a mark of one
+/// of their services or reaches their deadline. `reach_of` tells which may be touched: none, those
+/// that `watchers` lists for one service, or any. No waiter that waits has a deadline before `due`.
 pub fn copy_touched<A: Allocator>(
     alloc: A,
     waiters: &[Waiter],
@@ -130,7 +133,8 @@ pub fn list_serials<A: Allocator>(alloc: A, waiters: &[Waiter]) -> Result<Vec<Wa
     Ok(serials)
 }
 
-/// These waiters take in the moments. Returns the releases that these bring, by moment and then in the order of the waiters.
+/// These waiters take in the moments. Returns the releases that these bring, by moment and then in
+/// the order of the waiters.
 pub fn release_all<A: Allocator + Copy>(
     alloc: A,
     waiters: &mut [Waiter],
@@ -150,7 +154,8 @@ pub fn release_all<A: Allocator + Copy>(
     Ok(released)
 }
 
-/// A copy of the moments, in the memory of `spare`: the list of an earlier step, which is left with none.
+/// A copy of the moments, in the memory of `spare`: the list of an earlier step, which is left with
+/// none.
 pub fn keep_moments<A: Allocator + Copy>(
     spare: &mut Vec<Moment, A>,
     moments: &[Moment],

@@ -1,4 +1,5 @@
-//! Which waiters some moments (clock readings, and marks of services) may touch, told without a look at any waiter: their reach.
+//! Which waiters some moments (clock readings, and marks of services) may touch, told without a
+//! look at any waiter: their reach.
 ghost use Rattle.std.specs.Prelude.{◌≡◌, []};
 ghost use Rattle.wait_conditions.specs.Reach.{with_service, TouchWithin};
 ghost use Rattle.wait_conditions.specs.declared.reach.Reach.TheVariants as reach;

@@ -1,4 +1,5 @@
-//! Waiters that take in moments (clock readings, and marks of services), and the releases that these bring: a waiter waits no longer.
+//! Waiters that take in moments (clock readings, and marks of services), and the releases that
+//! these bring: a waiter waits no longer.
 ghost use Rattle.std.specs.Prelude.{◌≡◌, ◌==◌, ◌≤◌, ◌+◌, ◌-◌, ◌++◌, ◌∷◌, ℕ, All, Bool, List, not, length, map, filter, drop, vec_len, vec_capacity, option_to_list, if◌then◌else◌};
 ghost use Rattle.std.specs.List.{filter_map};
 ghost use Rattle.s6_events.specs.Rising.{AreRising};
@@ -48,7 +49,8 @@ fn note<A: Allocator>(released: &mut Vec<(WaitId, Verdict), A>, release: Option<
     }
 }
 
-/// Every waiter takes in the moment, and the releases are added to the list; there is room for them.
+/// Every waiter takes in the moment, and the releases are added to the list; there is room for
+/// them.
 pub fn take_in_all<A: Allocator>(
     waiters: &mut [Waiter],
     moment: &Moment,
@@ -76,8 +78,9 @@ pub fn is_touched_by_any(waiter: &Waiter, moments: &[Moment]) -> bool
     moments.iter().any(|moment| is_touched(waiter, moment))
 }
 
-// The place of the first waiter whose serial is not below `id`: that of `id` itself, where there is one. The serials rise. Its clause speaks of a
-// waiter that is the first to pass some test, whatever the test is.
+// The place of the first waiter whose serial is not below `id`: that of `id` itself, where there is
+// one. The serials rise. Its clause speaks of a waiter that is the first to pass some test,
+// whatever the test is.
 fn place_in(waiters: &[Waiter], id: WaitId) -> usize
     requires { AreRising (map (λ k. k.id) (waiters_view waiters.now)) }
     ensures bound { result ≤ length waiters.now }
@@ -88,7 +91,8 @@ fn place_in(waiters: &[Waiter], id: WaitId) -> usize
     waiters.partition_point(|waiter| waiter.id.0 < id.0)
 }
 
-/// The place of the waiter with the serial `id`, or of the first one above it, where only the waiters from `start` on are looked at.
+/// The place of the waiter with the serial `id`, or of the first one above it, where only the
+/// waiters from `start` on are looked at.
 pub fn place_from(waiters: &[Waiter], start: usize, id: WaitId) -> usize
     requires start { start ≤ length waiters.now }
     requires rising { AreRising (map (λ k. k.id) (waiters_view waiters.now)) }
@@ -112,7 +116,8 @@ fn take_in_moments(waiter: &mut Waiter, moments: &[Moment])
     }
 }
 
-// A waiter takes in these moments; where they release it, it watches no service any more, and is taken out of `watchers`.
+// A waiter takes in these moments; where they release it, it watches no service any more, and is
+// taken out of `watchers`.
 fn change<A: Allocator>(waiter: &mut Waiter, watchers: &mut Watchers<A>, moments: &[Moment])
     requires { IsCounted waiter.old }
     ensures waiter { waiter_view waiter.new ≡ with_moments moments.now (waiter_view waiter.old) }
@@ -128,8 +133,8 @@ fn change<A: Allocator>(waiter: &mut Waiter, watchers: &mut Watchers<A>, moments
     }
 }
 
-/// The waiters of these serials take in the moments, one after the other. They are all those that the moments touch, so that the
-/// others stay as they are.
+/// The waiters of these serials take in the moments, one after the other. They are all those that
+/// the moments touch, so that the others stay as they are.
 pub fn change_touched<A: Allocator>(
     waiters: &mut [Waiter],
     watchers: &mut Watchers<A>,

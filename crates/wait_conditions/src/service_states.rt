@@ -1,5 +1,6 @@
-//! What is known of every service, for waiters to come: kept in runs of neighbouring serials of which the same is known. Each run has its last
-//! serial, and goes from behind the run before it up to that one.
+//! What is known of every service, for waiters to come: kept in runs of neighbouring serials of
+//! which the same is known. Each run has its last serial, and goes from behind the run before it up
+//! to that one.
 ghost use Rattle.std.specs.Prelude.{◌≡◌, ◌==◌, ◌≤◌, ◌<◌, ◌+◌, ◌-◌, ◌*◌, ◌++◌, [], ◌∷◌, ℕ, true, false, length, take, drop, slice_get, slice_set, nat_le, nat_lt, vec_len, vec_capacity, if◌then◌else◌, IsOk, IfSome, IsSomeAnd, OnOk, OnErr};
 ghost use Rattle.std.specs.List.{list_all, list_any, remove};
 ghost use Rattle.s6_events.specs.Newest.{mark_of};
@@ -11,16 +12,18 @@ use s6_events::{Moment, NoMemory, Sid};
 use std::alloc::Allocator;
 use std::marker::Model;
 
-/// What is known of the services of one run of serials: of each one above the `last` of the run before it, up to its own `last`.
+/// What is known of the services of one run of serials: of each one above the `last` of the run
+/// before it, up to its own `last`.
 #[derive(Clone, Copy, Debug)]
 pub struct StateRun {
     pub last: Sid,
     pub state: SupervisorState,
 }
 
-/// What the marks say of every service, in runs of neighbouring serials of which the same is known. Services that were dropped have all
-/// ended, so they share the runs between those that were not. However long a tree runs, there are at most two runs for each service that
-/// was not dropped, and one more.
+/// What the marks say of every service, in runs of neighbouring serials of which the same is known.
+/// Services that were dropped have all ended, so they share the runs between those that were not.
+/// However long a tree runs, there are at most two runs for each service that was not dropped, and
+/// one more.
 #[derive(Drop)]
 pub struct ServiceStates<A: Allocator> {
     runs: Vec<StateRun, A>,
@@ -35,8 +38,8 @@ impl<A: Allocator> Model for ServiceStates<A> {
     ghost view = { λ s. record { runs = s.runs.items; spare_capacity = vec_capacity s.runs - vec_len s.runs } };
 }
 
-// What the runs say of a service: the first run that reaches up to its serial says it. Of one behind the last run the same is known as of a service
-// with no mark.
+// What the runs say of a service: the first run that reaches up to its serial says it. Of one
+// behind the last run the same is known as of a service with no mark.
 fn state_of_service(runs: &[StateRun], sid: Sid) -> SupervisorState
     ensures { result ≡ state_in runs.now sid }
 {
@@ -48,7 +51,8 @@ fn state_of_service(runs: &[StateRun], sid: Sid) -> SupervisorState
     SupervisorState::unseen()
 }
 
-// The place of the run that this serial is in, which is the first that reaches up to it; or the end, where none does.
+// The place of the run that this serial is in, which is the first that reaches up to it; or the
+// end, where none does.
 fn place_of(runs: &[StateRun], sid: Sid) -> usize
     ensures bound { result ≤ length runs.now }
     ensures before { list_all (λ r. nat_lt r.last sid) (take result runs.now) ≡ true }
@@ -81,7 +85,8 @@ fn says_the_same(run: StateRun, after: StateRun) -> bool
     run.last.0 <= after.last.0 && run.state == after.state
 }
 
-// Whether the run at this place reaches no further than the one before it, so that it has no serial of its own.
+// Whether the run at this place reaches no further than the one before it, so that it has no serial
+// of its own.
 fn is_covered(runs: &[StateRun], place: usize) -> bool
     requires { place < length runs.now }
     ensures same { result ≡ true → (sid : ℕ) →
@@ -94,7 +99,8 @@ fn is_covered(runs: &[StateRun], place: usize) -> bool
     reaches_no_further(runs[place], runs[place - 1])
 }
 
-// Whether the run at this place says the same as the one after it, and reaches no further than that one.
+// Whether the run at this place says the same as the one after it, and reaches no further than that
+// one.
 fn is_repeated(runs: &[StateRun], place: usize) -> bool
     requires { place < length runs.now }
     ensures same { result ≡ true → (sid : ℕ) →
@@ -115,8 +121,8 @@ fn ends_with(run: StateRun, last: u64) -> bool
     run.last.0 == last
 }
 
-// Whether the run before this place ends with the serial just below this one, or there is no such serial: then the run at this place begins with
-// this serial.
+// Whether the run before this place ends with the serial just below this one, or there is no such
+// serial: then the run at this place begins with this serial.
 fn is_reached_below(runs: &[StateRun], place: usize, sid: Sid) -> bool
     requires { place ≤ length runs.now }
     ensures below { result ≡ true → (other : ℕ) → other < sid
@@ -163,7 +169,8 @@ fn is_said_before(runs: &[StateRun], place: usize, sid: Sid, state: SupervisorSt
     place > 0 && says_just_below(runs[place - 1], sid, state)
 }
 
-// Whether there is a run at this place that is not needed: without it the same is known of each service.
+// Whether there is a run at this place that is not needed: without it the same is known of each
+// service.
 fn is_redundant(runs: &[StateRun], place: usize) -> bool
     ensures within { result ≡ true → place < length runs.now }
     ensures same { result ≡ true → (sid : ℕ) →
@@ -191,7 +198,8 @@ fn insert_run<A: Allocator>(
     runs.insert(place, StateRun { last, state }).unwrap();
 }
 
-// Puts a run in at this place that ends with the serial just below this one, if there is such a serial; there is room for it.
+// Puts a run in at this place that ends with the serial just below this one, if there is such a
+// serial; there is room for it.
 fn insert_below<A: Allocator>(
     runs: &mut Vec<StateRun, A>,
     place: usize,
@@ -238,7 +246,8 @@ impl<A: Allocator + Copy> ServiceStates<A> {
         }
     }
 
-    /// Makes room for the runs that this many more moments may add. `NoMemory` where memory is refused: nothing has changed then.
+    /// Makes room for the runs that this many more moments may add. `NoMemory` where memory is
+    /// refused: nothing has changed then.
     pub fn reserve(&mut self, moments: usize) -> Result<(), NoMemory>
         ensures runs { self.new.runs ≡ self.old.runs }
         ensures ok { OnOk result (2 * moments ≤ self.new.spare_capacity) }
@@ -273,7 +282,8 @@ impl<A: Allocator> ServiceStates<A> {
         state
     }
 
-    /// Takes in one more moment: a mark may change what is known of its service, a clock reading nothing. There is room for it.
+    /// Takes in one more moment: a mark may change what is known of its service, a clock reading
+    /// nothing. There is room for it.
     pub fn take_in(&mut self, moment: &Moment)
         requires { 2 ≤ self.old.spare_capacity }
         ensures states { (sid : ℕ) → state_in self.new.runs sid
@@ -300,7 +310,8 @@ impl<A: Allocator> ServiceStates<A> {
         }
     }
 
-    // Sets what is known of this service, and takes out runs that are then not needed; there is room for that.
+    // Sets what is known of this service, and takes out runs that are then not needed; there is
+    // room for that.
     fn put(&mut self, sid: Sid, state: SupervisorState)
         requires { 2 ≤ self.old.spare_capacity }
         ensures states { (other : ℕ) → state_in self.new.runs other
@@ -326,8 +337,8 @@ impl<A: Allocator> ServiceStates<A> {
         self.tidy(place);
     }
 
-    // Takes out the runs that are not needed, at the four places from one before this one to two after it. The last one is looked at
-    // first, so that the places of the others stay.
+    // Takes out the runs that are not needed, at the four places from one before this one to two
+    // after it. The last one is looked at first, so that the places of the others stay.
     fn tidy(&mut self, place: usize)
         ensures states { (sid : ℕ) → state_in self.new.runs sid ≡ state_in self.old.runs sid }
         ensures room { self.old.spare_capacity ≤ self.new.spare_capacity }
@@ -339,7 +350,8 @@ impl<A: Allocator> ServiceStates<A> {
         }
     }
 
-    // Takes out the run at this place and the one before it, where each says the same as the next one.
+    // Takes out the run at this place and the one before it, where each says the same as the next
+    // one.
     fn tidy_at(&mut self, place: usize)
         ensures states { (sid : ℕ) → state_in self.new.runs sid ≡ state_in self.old.runs sid }
         ensures room { self.old.spare_capacity ≤ self.new.spare_capacity }
@@ -350,7 +362,8 @@ impl<A: Allocator> ServiceStates<A> {
         }
     }
 
-    // Takes out the run at this place, if it says the same as the next one, which then covers its serials.
+    // Takes out the run at this place, if it says the same as the next one, which then covers its
+    // serials.
     fn drop_repeated(&mut self, place: usize)
         ensures states { (sid : ℕ) → state_in self.new.runs sid ≡ state_in self.old.runs sid }
         ensures room { self.old.spare_capacity ≤ self.new.spare_capacity }

@@ -1,4 +1,5 @@
-//! What the newest marks of a service say, in all the history and since a waiter was made: its letter, a start, a failure, an end.
+//! What the newest marks of a service say, in all the history and since a waiter was made: its
+//! letter, a start, a failure, an end.
 ghost use Rattle.std.specs.Prelude.{◌≡◌, []};
 ghost use Rattle.s6_events.specs.CurrentLetter.{letter_after};
 ghost use Rattle.s6_events.specs.Newest.{mark_of};
@@ -15,7 +16,8 @@ pub struct SupervisorState {
     pub ended: bool,
 }
 
-/// What is known of a service since a waiter was made: whether it was started, and whether it failed for good and was not started since.
+/// What is known of a service since a waiter was made: whether it was started, and whether it
+/// failed for good and was not started since.
 #[derive(Clone, Copy, Debug)]
 pub struct SinceState {
     pub spawned: bool,
@@ -32,7 +34,8 @@ pub fn mark_in(sid: Sid, moment: &Moment) -> Option<Mark>
     }
 }
 
-// The current letter of a service (the newest of its marks u, U, d and D) after one more mark, if there is one, where it was `letter` before.
+// The current letter of a service (the newest of its marks u, U, d and D) after one more mark, if
+// there is one, where it was `letter` before.
 fn next_letter(mark: Option<Mark>, letter: Mark) -> Mark
     ensures { result ≡ letter_after mark letter }
 {
@@ -42,7 +45,8 @@ fn next_letter(mark: Option<Mark>, letter: Mark) -> Mark
     }
 }
 
-// Whether a service was started since the waiter was made, after one more mark, if there is one; `spawned` is whether it was before.
+// Whether a service was started since the waiter was made, after one more mark, if there is one;
+// `spawned` is whether it was before.
 fn next_spawned(mark: Option<Mark>, spawned: bool) -> bool
     ensures { result ≡ spawned_after mark spawned }
 {
@@ -53,7 +57,8 @@ fn next_spawned(mark: Option<Mark>, spawned: bool) -> bool
 }
 
 impl SupervisorState {
-    /// What is known of a service with no mark: its current letter is D, as of one that is down with `finish` done.
+    /// What is known of a service with no mark: its current letter is D, as of one that is down
+    /// with `finish` done.
     pub fn unseen() -> SupervisorState
         ensures { result ≡ state_of 0 [] }
     {
@@ -63,7 +68,8 @@ impl SupervisorState {
         }
     }
 
-    /// What is known of a service after one more mark, if there is one: its current letter, and whether its supervisor has ended.
+    /// What is known of a service after one more mark, if there is one: its current letter, and
+    /// whether its supervisor has ended.
     pub fn after(self, mark: Option<Mark>) -> SupervisorState
         ensures { result ≡ state_after mark self }
     {
@@ -75,7 +81,8 @@ impl SupervisorState {
 }
 
 impl SinceState {
-    /// What is known of a service since a waiter was made, where no moment has come yet: it was not started, and did not fail.
+    /// What is known of a service since a waiter was made, where no moment has come yet: it was not
+    /// started, and did not fail.
     pub fn fresh() -> SinceState
         ensures { result ≡ since_of 0 [] }
     {
@@ -85,8 +92,8 @@ impl SinceState {
         }
     }
 
-    /// What is known of a service since a waiter was made, after one more mark, if there is one: whether it was started, and whether it failed for
-    /// good.
+    /// What is known of a service since a waiter was made, after one more mark, if there is one:
+    /// whether it was started, and whether it failed for good.
     pub fn after(self, mark: Option<Mark>) -> SinceState
         ensures { result ≡ since_after mark self }
     {

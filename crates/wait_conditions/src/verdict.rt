@@ -2,7 +2,7 @@
 ghost use Rattle.std.specs.Prelude.{◌≡◌};
 ghost use Rattle.wait_conditions.specs.Counts.{count_is_enough, count_is_hopeless, verdict_by};
 
-use crate::counts::Counts;
+use crate::counts::ServiceCounts;
 use s6_events::Mode;
 
 /// How a wait ends. Page `s6-svwait`; `Gone` is chosen here.
@@ -27,8 +27,9 @@ pub enum WaitState {
     Released(Verdict),
 }
 
-// Whether the condition holds of as many services as the mode asks for: of all, or of one. `services` is how many the waiter has.
-fn is_enough(counts: Counts, mode: Mode, services: usize) -> bool
+// Whether the condition holds of as many services as the mode asks for: of all, or of one.
+// `services` is how many the waiter has.
+fn is_enough(counts: ServiceCounts, mode: Mode, services: usize) -> bool
     ensures { result ≡ count_is_enough mode services counts.holding }
 {
     match mode {
@@ -37,8 +38,9 @@ fn is_enough(counts: Counts, mode: Mode, services: usize) -> bool
     }
 }
 
-// Whether the condition fails (is given up) of so many services that it can't hold any more of as many as the mode asks for: all, or one.
-fn is_hopeless(counts: Counts, mode: Mode, services: usize) -> bool
+// Whether the condition fails (is given up) of so many services that it can't hold any more of as
+// many as the mode asks for: all, or one.
+fn is_hopeless(counts: ServiceCounts, mode: Mode, services: usize) -> bool
     ensures { result ≡ count_is_hopeless mode services counts.failing }
 {
     match mode {
@@ -47,9 +49,9 @@ fn is_hopeless(counts: Counts, mode: Mode, services: usize) -> bool
     }
 }
 
-/// The verdict over `services` services, by their counters. `late`: the deadline has come. It is the first that applies of Held, Failed
-/// or Gone, TimedOut, and Waiting.
-pub fn verdict_of(counts: Counts, mode: Mode, services: usize, late: bool) -> WaitState
+/// The verdict over `services` services, by their counters. `late`: the deadline has come. It is
+/// the first that applies of Held, Failed or Gone, TimedOut, and Waiting.
+pub fn verdict_of(counts: ServiceCounts, mode: Mode, services: usize, late: bool) -> WaitState
     ensures { result ≡ verdict_by mode services counts late }
 {
     if is_enough(counts, mode, services) {

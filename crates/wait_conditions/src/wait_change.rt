@@ -8,8 +8,8 @@ use s6_events::{At, Condition, Mode, Sid, WaitId};
 pub enum WaitChange<'a> {
     /// Nothing.
     Nothing,
-    /// A waiter for these services is to be made. Its timeout is in milliseconds, 0 for none, and counts from this moment. Page
-    /// `s6-svwait`.
+    /// A waiter for these services is to be made. Its timeout is in milliseconds, 0 for none, and
+    /// counts from this moment. Page `s6-svwait`.
     Add(Condition, Mode, &'a [Sid], u32, At),
     /// The waiter of this serial is to end.
     Cancel(WaitId),

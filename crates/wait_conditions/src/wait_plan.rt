@@ -23,7 +23,8 @@ pub enum PlannedChange<A: Allocator> {
     Leave(WaitId),
 }
 
-/// A step of the waiters that is worked out and not made yet: what it gives, and all that `Waits::commit` needs to make it.
+/// A step of the waiters that is worked out and not made yet: what it gives, and all that
+/// `Waits::commit` needs to make it.
 #[derive(Drop)]
 pub struct WaitsPlan<A: Allocator> {
     pub(crate) released: Vec<(WaitId, Verdict), A>,
@@ -65,7 +66,8 @@ impl<A: Allocator> WaitsPlan<A> {
 }
 
 impl<A: Allocator + Copy> WaitsPlan<A> {
-    /// The plan of these moments alone, where there is no waiter: nobody is touched or released. `next` is the serial of the next new waiter.
+    /// The plan of these moments alone, where there is no waiter: nobody is touched or released.
+    /// `next` is the serial of the next new waiter.
     pub(crate) fn of_nobody(moments: Vec<Moment, A>, next: u64) -> WaitsPlan<A>
         ensures { result ≡ record {
           released = [];
@@ -97,7 +99,8 @@ pub(crate) struct ChangePlan<A: Allocator> {
 }
 
 impl<A: Allocator> ChangePlan<A> {
-    /// A plan in which the list of waiters stays as it is. `next` is the serial of the next new waiter.
+    /// A plan in which the list of waiters stays as it is. `next` is the serial of the next new
+    /// waiter.
     pub(crate) fn stay(answer: WaitAnswer, next: u64) -> ChangePlan<A>
         ensures answer { result.answer ≡ answer }
         ensures change { result.change ≡ Stay }

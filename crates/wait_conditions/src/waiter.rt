@@ -1,4 +1,5 @@
-//! A waiter as it is stored: what it knows of its services, and what a moment (a clock reading, or a mark of a service) makes of it.
+//! A waiter as it is stored: what it knows of its services, and what a moment (a clock reading, or
+//! a mark of a service) makes of it.
 ghost use Rattle.std.specs.Prelude.{◌≡◌, ◌==◌, ◌≤◌, [], length, map};
 ghost use Rattle.std.specs.List.{list_any};
 ghost use Rattle.wait_conditions.specs.Kept.{waiter_view, still_waits, late_at, concerns, watched_then, judged, with_moment};
@@ -11,7 +12,7 @@ ghost use Rattle.wait_conditions.specs.declared.verdict.WaitState.TheVariants.{W
 ghost use Rattle.wait_conditions.specs.Watched.{watched_as};
 ghost use Rattle.wait_conditions.specs.WaitsFields.{IsCounted};
 
-use crate::counts::{Counts, count_all, watch_all};
+use crate::counts::{ServiceCounts, count_all, watch_all};
 use crate::deadline::reaches_deadline;
 use crate::service_states::ServiceStates;
 use crate::supervisor_state::SinceState;
@@ -21,8 +22,9 @@ use arrayvec::ArrayVec;
 use s6_events::{Condition, Mode, Moment, Sid, WaitId};
 use std::alloc::Allocator;
 
-/// A waiter: what it was made with, how many moments had come by then, and its state. A deadline is a moment in milliseconds. While it
-/// waits it knows its services, and counts those of which the condition holds and those of which it fails; afterwards it knows none.
+/// A waiter: what it was made with, how many moments had come by then, and its state. A deadline is
+/// a moment in milliseconds. While it waits it knows its services, and counts those of which the
+/// condition holds and those of which it fails; afterwards it knows none.
 #[derive(Drop)]
 pub struct Waiter {
     pub id: WaitId,
@@ -32,7 +34,7 @@ pub struct Waiter {
     /// How many moments had come when it was made.
     pub place: u64,
     pub watched: ArrayVec<WatchedService, 16>,
-    pub counts: Counts,
+    pub counts: ServiceCounts,
     /// Whether it waits still, or with which verdict it was released.
     pub standing: WaitState,
 }
@@ -78,7 +80,8 @@ pub fn is_touched(waiter: &Waiter, moment: &Moment) -> bool
     waits_still(waiter) && is_concerned(waiter, moment)
 }
 
-// The waiter's services take in the moment, and it counts anew of how many its condition holds or fails.
+// The waiter's services take in the moment, and it counts anew of how many its condition holds or
+// fails.
 fn watch(waiter: &mut Waiter, moment: &Moment)
     requires { IsCounted waiter.old }
     ensures waiter { waiter_view waiter.new ≡ record (waiter_view waiter.old)
@@ -93,7 +96,8 @@ fn watch(waiter: &mut Waiter, moment: &Moment)
     );
 }
 
-// The waiter takes the verdict by its counters, and forgets its services where that releases it. `late`: its deadline has come.
+// The waiter takes the verdict by its counters, and forgets its services where that releases it.
+// `late`: its deadline has come.
 fn judge(waiter: &mut Waiter, late: bool)
     requires { IsCounted waiter.old }
     ensures waiter { waiter_view waiter.new ≡ judged late (waiter_view waiter.old) }
@@ -102,7 +106,7 @@ fn judge(waiter: &mut Waiter, late: bool)
     waiter.standing = verdict_of(waiter.counts, waiter.mode, waiter.watched.len(), late);
     if waiter.standing != WaitState::Waiting {
         waiter.watched.clear();
-        waiter.counts = Counts::none();
+        waiter.counts = ServiceCounts::none();
     }
 }
 
@@ -142,7 +146,8 @@ pub fn copy_of(waiter: &Waiter) -> Waiter
     }
 }
 
-// What is known of these services after some moments (`moments`) that `states` has not taken in yet. No mark has come since the waiter was made.
+// What is known of these services after some moments (`moments`) that `states` has not taken in
+// yet. No mark has come since the waiter was made.
 fn watch_services<A: Allocator>(
     condition: Condition,
     sids: &[Sid],
@@ -161,8 +166,8 @@ fn watch_services<A: Allocator>(
     watched
 }
 
-/// A waiter that is made once `place` moments have come. `states`, what is known of every service, has not taken in yet the last ones of these,
-/// which are `moments`.
+/// A waiter that is made once `place` moments have come. `states`, what is known of every service,
+/// has not taken in yet the last ones of these, which are `moments`.
 pub fn new_waiter<A: Allocator>(
     id: WaitId,
     place: u64,

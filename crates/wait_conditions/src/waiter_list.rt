@@ -1,5 +1,5 @@
-//! The waiters that stand, in the order in which they were made; which of them watch which service (`watchers`); and a moment before which no
-//! deadline of those that wait lies (`due`).
+//! The waiters that stand, in the order in which they were made; which of them watch which service
+//! (`watchers`); and a moment before which no deadline of those that wait lies (`due`).
 ghost use Rattle.std.specs.Prelude.{◌≡◌, ◌≤◌, ◌<◌, ◌++◌, [], ◌∷◌, All, IfOk, IsOk, OnOk, OnErr, None, false, true, length, map, filter, vec_len, vec_capacity};
 ghost use Rattle.std.specs.List.{list_any};
 ghost use Rattle.wait_conditions.specs.Kept.{waiter_view, standing_stored, standing_kept, is_other, oldest_place, still_waits, with_moments};
@@ -17,17 +17,16 @@ use crate::planning::copy_touched;
 use crate::releasing::change_touched;
 use crate::verdict::WaitState;
 use crate::waiter::{Waiter, waits_still};
+use crate::waiter_limits::MOST_WATCHED;
 use crate::watchers::Watchers;
 use s6_events::{Moment, NoMemory, WaitId};
 use std::alloc::Allocator;
 use std::marker::Model;
 
-/// The most services that one waiter watches.
-const MOST_WATCHED: usize = 16;
-
-/// The waiters that stand, in the order in which they were made: a waiter stands until it is cancelled, released or not. Beside them it
-/// keeps which waiter watches which service, and a moment (`due`): no waiter that waits has a deadline before it. So the waiters that a
-/// moment touches are mostly found without a look at the others.
+/// The waiters that stand, in the order in which they were made: a waiter stands until it is
+/// cancelled, released or not. Beside them it keeps which waiter watches which service, and a
+/// moment (`due`): no waiter that waits has a deadline before it. So the waiters that a moment
+/// touches are mostly found without a look at the others.
 #[derive(Drop)]
 pub struct WaiterList<A: Allocator> {
     waiters: Vec<Waiter, A>,
@@ -69,7 +68,8 @@ impl<A: Allocator> WaiterList<A> {
         find_standing(&self.waiters, id)
     }
 
-    /// How many moments had come when the oldest of those that wait still was made (its place); None where none waits.
+    /// How many moments had come when the oldest of those that wait still was made (its place);
+    /// None where none waits.
     pub fn oldest(&self) -> Option<u64>
         ensures { result ≡ oldest_place self.now.waiters }
     {
@@ -83,8 +83,8 @@ impl<A: Allocator> WaiterList<A> {
         earliest_deadline(&self.waiters)
     }
 
-    /// Makes room for one more waiter, and for the 16 services that it may watch. `NoMemory` where memory is refused: the waiters, and how many
-    /// more fit, are then as before.
+    /// Makes room for one more waiter, and for the 16 services that it may watch. `NoMemory` where
+    /// memory is refused: the waiters, and how many more fit, are then as before.
     pub fn reserve_one(&mut self) -> Result<(), NoMemory>
         ensures waiters { self.new.waiters ≡ self.old.waiters }
         ensures ok { OnOk result (1 ≤ self.new.spare) }
@@ -110,7 +110,8 @@ impl<A: Allocator> WaiterList<A> {
         self.waiters.push_reserved(waiter);
     }
 
-    /// `push` of a waiter in a box. It is a function of its own: inlined, a step that adds none would fill a place for one in its frame.
+    /// `push` of a waiter in a box. It is a function of its own: inlined, a step that adds none
+    /// would fill a place for one in its frame.
     #[inline(never)]
     pub fn push_boxed(&mut self, waiter: Box<Waiter, A>)
         requires room { 1 ≤ self.old.spare }
@@ -133,8 +134,8 @@ impl<A: Allocator> WaiterList<A> {
         drop_named(&mut self.waiters, id);
     }
 
-    /// The waiters of these serials take in the moments, one after the other. They are all those that the moments touch, so that the
-    /// others stay as they are.
+    /// The waiters of these serials take in the moments, one after the other. They are all those
+    /// that the moments touch, so that the others stay as they are.
     pub fn change(&mut self, touched: &[WaitId], moments: &[Moment])
         requires { touched.now ≡ serials_where (touched_by moments.now) self.old.waiters }
         ensures waiters { self.new.waiters ≡ map (with_moments moments.now) self.old.waiters }
@@ -144,7 +145,8 @@ impl<A: Allocator> WaiterList<A> {
             return;
         }
         change_touched(&mut self.waiters, &mut self.watchers, touched, moments);
-        // Waiters with the least deadline may be released now: the least of the others is looked for.
+        // Waiters with the least deadline may be released now: the least of the others is looked
+        // for.
         if is_reached(self.due, moments) {
             self.due = least_deadline(&self.waiters);
         }
@@ -152,7 +154,8 @@ impl<A: Allocator> WaiterList<A> {
 }
 
 impl<A: Allocator + Copy> WaiterList<A> {
-    /// A list with no waiter, in which no service is watched. `due`, before which no deadline lies, is the greatest number, since there is none.
+    /// A list with no waiter, in which no service is watched. `due`, before which no deadline lies,
+    /// is the greatest number, since there is none.
     pub fn new(alloc: A) -> WaiterList<A>
         ensures { result.waiters ≡ [] }
     {
@@ -175,8 +178,8 @@ impl<A: Allocator + Copy> WaiterList<A> {
         images_of(alloc, &self.waiters)
     }
 
-    /// Copies of the waiters that these moments touch: those that wait, where a moment is a mark of one of their services or reaches their
-    /// deadline.
+    /// Copies of the waiters that these moments touch: those that wait, where a moment is a mark of
+    /// one of their services or reaches their deadline.
     pub fn copy_touched(&self, moments: &[Moment]) -> Result<Vec<Waiter, A>, NoMemory>
         ensures copies { IfOk result (λ copies. waiters_view copies.items
             ≡ filter (touched_by moments.now) self.now.waiters) }
@@ -230,7 +233,8 @@ fn find_standing(waiters: &[Waiter], id: WaitId) -> Option<WaitState>
     find_stored(waiters, id)
 }
 
-// The state of the waiter of this serial; None where there is none. For the proof: its clause speaks of the waiters as stored.
+// The state of the waiter of this serial; None where there is none. For the proof: its clause
+// speaks of the waiters as stored.
 fn find_stored(waiters: &[Waiter], id: WaitId) -> Option<WaitState>
     ensures { result ≡ standing_stored id waiters.now }
 {
@@ -242,7 +246,8 @@ fn find_stored(waiters: &[Waiter], id: WaitId) -> Option<WaitState>
     None
 }
 
-// The place in the history of the first waiter that waits still, which is the oldest of those that do.
+// The place in the history of the first waiter that waits still, which is the oldest of those that
+// do.
 fn oldest_of(waiters: &[Waiter]) -> Option<u64>
     requires { BeganInOrder (waiters_view waiters.now) }
     ensures { result ≡ oldest_place (waiters_view waiters.now) }
@@ -255,7 +260,8 @@ fn oldest_of(waiters: &[Waiter]) -> Option<u64>
     None
 }
 
-/// The place in the history of the oldest waiter that waits, or the end where there is none: `count` moments have come.
+/// The place in the history of the oldest waiter that waits, or the end where there is none:
+/// `count` moments have come.
 pub fn place_or_end(oldest: Option<u64>, count: u64) -> u64
     ensures { result ≡ place_or_end oldest count }
 {

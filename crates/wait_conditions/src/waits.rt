@@ -1,4 +1,4 @@
-//! The waiters of all services (`list`), and what is known of every service for new ones (`states`).
+//! The waiters of all services, and what is known of every service for new ones.
 ghost use Rattle.std.specs.Prelude.{◌≡◌, ◌≤◌, ◌<◌, ◌+◌, ◌*◌, ◌^◌, [], ◌∷◌, IfOk, IfErr, IsOk, OnOk, OnErr, IsOkAnd, All, None, ℕ, is_some, length, map, filter};
 ghost use Rattle.std.specs.List.{filter_map};
 ghost use Rattle.wait_conditions.specs.Kept.{waiter_view, standing_stored, standing_kept, is_other, lower, oldest_place, NoneBegan, release_seen, releases_seen};
@@ -35,15 +35,15 @@ use std::marker::Model;
 /// Fewer moments than this are counted: 2^63.
 const COUNT_LIMIT: u64 = 9_223_372_036_854_775_808;
 
-/// The waiters that stand (a waiter does until it is cancelled, released or not), at most `WAITER_LIMIT`, and what is known of every
-/// service. Pages `s6-svwait` and `s6-svlisten`; that the history alone says when a waiter is released is chosen here.
+/// The waiters that stand (a waiter does until it is cancelled, released or not), at most
+/// `WAITER_LIMIT`, and what is known of every service. Pages `s6-svwait` and `s6-svlisten`; that
+/// the history alone says when a waiter is released is chosen here.
 ///
-/// A step is worked out first (`prepare`), which changes nothing that is shown, and its plan is then made (`commit`); or one thing
-/// alone is done at once (`add`, `moment`, `cancel`).
-///
-/// No moment is kept. Each waiter that waits counts those of its services of which its condition holds, and those of which it fails. A
-/// step looks at all waiters only where its marks are of several services, or its clock reading may reach a deadline; else at those
-/// that watch the one service of its marks, or at none.
+/// `prepare` works a step out, which changes nothing that is shown, and `commit` makes it; `add`,
+/// `moment` and `cancel` do one thing alone, at once. No moment is kept: each waiter counts those
+/// of its services of which its condition holds, and those of which it fails. A step looks at all
+/// waiters only where its marks are of several services or a deadline may be reached; else at those
+/// that watch the one service of its marks.
 #[derive(Drop)]
 pub struct Waits<A: Allocator> {
     // How many moments have come.
@@ -76,7 +76,6 @@ impl<A: Allocator + Copy> Waits<A> {
         ensures serials { result.next ≡ 1 }
     {
         Waits {
-            // How many moments have come; what is known of each service; the waiters; the next one's serial; memory for a step's moments.
             count: 0,
             states: ServiceStates::new(alloc),
             list: WaiterList::new(alloc),
@@ -92,7 +91,7 @@ impl<A: Allocator + Copy> Waits<A> {
         self.stored_result(id)
     }
 
-    // The state of the waiter of this serial; None where there is none. For the proof: its clause speaks only of what is stored.
+    // The state of the waiter of this serial; None where there is none. For the proof.
     fn stored_result(&self, id: WaitId) -> Option<WaitState>
         ensures { result ≡ standing_kept id self.now.waiters }
     {
@@ -119,15 +118,15 @@ impl<A: Allocator + Copy> Waits<A> {
         self.stored_deadline()
     }
 
-    // The earliest deadline of the waiters that wait still. For the proof: its clause speaks only of what is stored.
+    // The earliest deadline of the waiters that wait. For the proof.
     fn stored_deadline(&self) -> Option<u64>
         ensures { result ≡ earliest (map stored_until self.now.waiters) }
     {
         self.list.next_deadline()
     }
 
-    /// The place from which on moments are still needed: how many had come when the oldest waiter that waits still was made, or how many
-    /// came in all where none waits. What came before may be forgotten.
+    /// The place from which on moments are still needed: where the oldest waiter that waits still
+    /// began, or past all that came where none waits.
     pub fn needed_from(&self) -> u64
         ensures value { result ≡ needed_from (waits_shown self.now) }
         ensures least { (place : ℕ) → NoneBegan place self.now.waiters → place ≤ self.now.count
@@ -140,9 +139,9 @@ impl<A: Allocator + Copy> Waits<A> {
         place_or_end(self.list.oldest(), self.count)
     }
 
-    /// Makes a waiter for these services, 1 to 16, each named once. Its deadline is `timeout` milliseconds after `start`; with a
-    /// timeout of 0 it has none. Returns its serial, and its verdict where it is released at once. The faults are looked for in
-    /// the order of their numbers; where there is one, nothing has changed. Pages `s6-svwait` and `s6-svlisten`.
+    /// Makes a waiter for these services, 1 to 16, each named once. Its deadline is `timeout`
+    /// milliseconds after `start`; 0 is none. Returns its serial, and its verdict where it is
+    /// released at once. At a fault, the first by number, nothing changes.
     pub fn add(
         &mut self,
         condition: Condition,
@@ -169,7 +168,7 @@ impl<A: Allocator + Copy> Waits<A> {
         self.admit(condition, mode, sids, timeout, start)
     }
 
-    // Makes a waiter that begins after all moments that `states` took in, or says why not. For the proof of `add`: its clauses are of what is stored.
+    // Makes a waiter that begins after all moments so far, or says why not. For the proof of `add`.
     fn admit(
         &mut self,
         condition: Condition,
@@ -210,8 +209,8 @@ impl<A: Allocator + Copy> Waits<A> {
         Ok((id, verdict))
     }
 
-    /// Takes in the next moment. Returns the waiters that it releases, in rising serial, each with its verdict. NoMemory where memory is
-    /// refused, or where 2^63 moments would have come: nothing has changed then.
+    /// Takes in the next moment. Returns the waiters that it releases, in rising serial, with their
+    /// verdicts. NoMemory, which changes nothing, also where 2^63 moments would have come.
     pub fn moment(&mut self, moment: &Moment) -> Result<Vec<(WaitId, Verdict), A>, NoMemory>
         ensures ok { IfOk result (λ released. (w : Watch) → WaitsFor self.old w →
             (released.items ≡ releases w moment.now)
@@ -222,8 +221,7 @@ impl<A: Allocator + Copy> Waits<A> {
         self.take_moment(moment)
     }
 
-    // Takes in the next moment: first on copies, since memory may be refused, then for good. For the proof of `moment`: its clauses speak only of
-    // what is stored.
+    // Takes in the next moment, first on copies of the waiters. For the proof of `moment`.
     fn take_moment(&mut self, moment: &Moment) -> Result<Vec<(WaitId, Verdict), A>, NoMemory>
         ensures ok { IfOk result (λ released.
             (released.items ≡ filter_map (release_seen moment.now) self.old.waiters)
@@ -258,18 +256,18 @@ impl<A: Allocator + Copy> Waits<A> {
         stood
     }
 
-    // Takes the waiter of this serial out, if there is one. For the proof of `cancel`: its clause speaks only of what is stored.
+    // Takes the waiter of this serial out, if there is one. For the proof of `cancel`.
     fn take_out(&mut self, id: WaitId)
         ensures { CancelsWaiter (waits_shown self.old) (waits_shown self.new) id }
     {
         self.list.remove(id);
     }
 
-    /// Works out a step: its moments in order, and after all of them one change. The releases come by moment and then in rising serial.
-    /// A waiter that is added begins after these moments, and its verdict is looked at right then. Nothing that is shown changes.
-    ///
-    /// NoMemory where memory is refused, or where 2^63 moments would have come. A step with no moment and no change takes no memory,
-    /// and releases nothing.
+    /// Works out a step: its moments in order, and after all of them one change. The releases come
+    /// by moment and then in rising serial. A waiter that is added begins after these moments, and
+    /// its verdict is looked at right then. Nothing that is shown changes. NoMemory also where 2^63
+    /// moments would have come. A step with no moment and no change takes no memory, and releases
+    /// nothing.
     #[inline(always)]
     pub fn prepare(
         &mut self,
@@ -291,7 +289,7 @@ impl<A: Allocator + Copy> Waits<A> {
         self.prepare_stored(moments, change)
     }
 
-    // Works out a step, which `commit` makes. For the proof of `prepare`: its clauses speak only of what is stored.
+    // Works out a step, which `commit` makes. For the proof of `prepare`.
     #[inline(always)]
     fn prepare_stored(
         &mut self,
@@ -320,7 +318,7 @@ impl<A: Allocator + Copy> Waits<A> {
         self.prepare_any(moments, change)
     }
 
-    // Works out a step on copies of the waiters that it touches. It is a function of its own, since most steps find no waiter.
+    // Works out a step on copies of the waiters that it touches. Apart, as most steps touch none.
     #[inline(never)]
     fn prepare_any(
         &mut self,
@@ -355,7 +353,7 @@ impl<A: Allocator + Copy> Waits<A> {
         })
     }
 
-    // Makes room for the moments of a step, and for the waiter that it may add. NoMemory also where 2^63 moments would have come.
+    // Makes room for the moments of a step, and for a new waiter. NoMemory also past 2^63 moments.
     fn make_room(&mut self, moments: usize, change: &WaitChange) -> Result<(), NoMemory>
         ensures shown { waits_shown self.new ≡ waits_shown self.old }
         ensures count { OnOk result (self.new.count + moments < 2 ^ 63) }
@@ -374,7 +372,7 @@ impl<A: Allocator + Copy> Waits<A> {
         Ok(())
     }
 
-    // Plans the change of a step, after these moments: a waiter to be made or ended. `next` is the serial of the next new waiter.
+    // Plans the change of a step, after these moments. `next` is the serial of the next new waiter.
     #[inline(always)]
     fn plan_change(
         &self,
@@ -413,8 +411,7 @@ impl<A: Allocator + Copy> Waits<A> {
         }
     }
 
-    // Plans the waiter that is asked for, or its refusal. It is a function of its own, so that a step that asks for none needs no place
-    // for one.
+    // Plans the waiter that is asked for, or its refusal. Apart: other steps need no place for one.
     #[inline(never)]
     fn plan_add(
         &self,
@@ -463,7 +460,7 @@ impl<A: Allocator + Copy> Waits<A> {
         })
     }
 
-    /// Makes the step of a plan. It has to be a plan of these waiters, and nothing may have changed since it was made.
+    /// Makes the step of a plan, which has to be one of these waiters as they stand now.
     pub fn commit(&mut self, plan: WaitsPlan<A>)
         requires { FitsWaits plan self.old }
         ensures makes { MakesPlan plan (waits_shown self.old) (waits_shown self.new) }
@@ -473,7 +470,7 @@ impl<A: Allocator + Copy> Waits<A> {
         self.make(plan);
     }
 
-    // Makes the step of a plan, without taking memory; `spare` keeps that of its moments. For the proof of `commit`: its clause is of what is stored.
+    // Makes the step of a plan; `spare` keeps the memory of its moments. For the proof of `commit`.
     #[inline(always)]
     fn make(&mut self, plan: WaitsPlan<A>)
         requires { FitsWaits plan self.old }

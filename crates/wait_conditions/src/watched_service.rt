@@ -7,8 +7,9 @@ use crate::condition_holds::condition_holds;
 use crate::supervisor_state::{SinceState, SupervisorState};
 use s6_events::{Condition, Mark, Sid};
 
-/// A service that a waiter waits for: what all its marks say of it (`state`), and what those say that came since the waiter was made
-/// (`since`); and, by these, whether the condition holds of it, or else why it is given up, if it is.
+/// A service that a waiter waits for: what all its marks say of it (`state`), and what those say
+/// that came since the waiter was made (`since`); and, by these, whether the condition holds of it,
+/// or else why it is given up, if it is.
 #[derive(Clone, Copy, Debug)]
 pub struct WatchedService {
     pub sid: Sid,
@@ -19,8 +20,9 @@ pub struct WatchedService {
 }
 
 impl WatchedService {
-    /// The service of this serial, of which all marks say `state`, and those since the waiter was made say `since`. From these follows whether the
-    /// condition holds of it, and if not, why it is given up (`failure`), if it is.
+    /// The service of this serial, of which all marks say `state`, and those since the waiter was
+    /// made say `since`. From these follows whether the condition holds of it, and if not, why it
+    /// is given up (`failure`), if it is.
     pub fn new(
         condition: Condition,
         sid: Sid,

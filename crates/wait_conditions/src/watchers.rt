@@ -1,4 +1,5 @@
-//! Which waiters watch which service: a list of pairs of both serials, in the order of the services, and for one service in that of the waiters.
+//! Which waiters watch which service: a list of pairs of both serials, in the order of the
+//! services, and for one service in that of the waiters.
 ghost use Rattle.std.specs.Prelude.{◌≡◌, ◌==◌, ◌≤◌, ◌+◌, ◌++◌, [], ◌∷◌, ℕ, false, not, map, filter, length, if◌then◌else◌, IsOk, OnOk, OnErr};
 ghost use Rattle.wait_conditions.specs.Kept.{waiter_view};
 ghost use Rattle.wait_conditions.specs.Refusal.{repeats_serial};
@@ -16,7 +17,8 @@ pub struct Watcher {
     pub waiter: WaitId,
 }
 
-/// The waiters that wait, by their services: those of one service lie side by side, in rising serial.
+/// The waiters that wait, by their services: those of one service lie side by side, in rising
+/// serial.
 #[derive(Drop)]
 pub struct Watchers<A: Allocator> {
     list: Vec<Watcher, A>,
@@ -45,7 +47,8 @@ impl<A: Allocator> Watchers<A> {
         }
     }
 
-    /// Makes room for `more` watchers. `NoMemory` where memory is refused: nothing has changed then.
+    /// Makes room for `more` watchers. `NoMemory` where memory is refused: nothing has changed
+    /// then.
     pub fn reserve(&mut self, more: usize) -> Result<(), NoMemory>
         ensures watchers { self.new.watchers ≡ self.old.watchers }
         ensures ok { OnOk result (more ≤ self.new.spare_capacity) }
@@ -56,7 +59,8 @@ impl<A: Allocator> Watchers<A> {
         Ok(())
     }
 
-    /// The watchers of this service, in rising serial of the waiters: they lie side by side, and are found by halves.
+    /// The watchers of this service, in rising serial of the waiters: they lie side by side, and
+    /// are found by halves.
     pub fn of(&self, sid: Sid) -> &[Watcher]
         ensures { map (λ w. w.waiter) result.now ≡ serials_of sid self.now.watchers }
     {
@@ -77,8 +81,8 @@ impl<A: Allocator> Watchers<A> {
         self.list.insert(place, Watcher { sid, waiter }).unwrap();
     }
 
-    /// Adds a watcher for each service that this waiter watches; there is room for them. Its serial is higher than those of all others. A
-    /// released waiter watches none.
+    /// Adds a watcher for each service that this waiter watches; there is room for them. Its serial
+    /// is higher than those of all others. A released waiter watches none.
     pub fn join(&mut self, waiter: &Waiter)
         requires room { length waiter.now.watched.items ≤ self.old.spare_capacity }
         requires apart { repeats_serial (map (λ w. w.sid) waiter.now.watched.items) ≡ false }

@@ -65,8 +65,8 @@ fn check_replayed(
     Ok(())
 }
 
-// How many blocks of the transcript the text is, from its beginning on, or None where it isn't a number of whole ones. A block begins
-// with its number, and its other lines with a letter.
+// How many blocks of the transcript the text is, from its beginning on, or None where it isn't a
+// number of whole ones. A block begins with its number, and its other lines with a letter.
 fn count_blocks(transcript: &str, text: &[u8]) -> Option<usize> {
     let rest = transcript.as_bytes().strip_prefix(text)?;
     let mut count = 0usize;

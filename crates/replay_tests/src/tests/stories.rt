@@ -1,6 +1,7 @@
-//! Stories: what a script is told as, in words. The expected lines were written by hand, from docs/STORY.md and docs/MACHINE.md.
+//! Stories: what a script is told as, in words. The expected lines were written by hand, from
+//! docs/STORY.md and docs/MACHINE.md.
 use super::cases::Case;
-use super::tool::Words;
+use super::tool::CommandWords;
 use super::{holds, same};
 use replay_tool::run_tool;
 use std::alloc::Global;
@@ -219,7 +220,7 @@ fn is_ended(status: u8, errors: &[u8], answer: &str) -> bool {
 fn check_story(rt: &impl Abort, alloc: Global, case: &Case) {
     let mut output = Vec::new(alloc);
     let mut errors = Vec::new(alloc);
-    let words = Words(&[b"replay", b"--story"]);
+    let words = CommandWords(&[b"replay", b"--story"]);
     let input = case.script.as_bytes();
     let status = run_tool(&words, alloc, alloc, input, &mut output, &mut errors);
     same(rt, case.name, output.as_slice(), case.written.as_bytes());
@@ -251,7 +252,7 @@ const DATED: &str = "2026-11-27T23:59:58.750Z web added
 fn what_happened_by_times_of_day(rt: HostRuntime) {
     let mut output = Vec::new(rt.alloc());
     let mut errors = Vec::new(rt.alloc());
-    let words = Words(&[
+    let words = CommandWords(&[
         b"replay",
         b"--story",
         b"--since",

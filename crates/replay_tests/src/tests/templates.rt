@@ -4,7 +4,8 @@ use std::alloc::{AllocError, Global};
 /// A template, and how many times it stands in a text.
 pub type Part = (u32, &'static str);
 
-// Adds a template: `#` stands for this number, `@` for the next one, `~` for it in two digits, `%` for it in three.
+// Adds a template: `#` stands for this number, `@` for the next one, `~` for it in two digits, `%`
+// for it in three.
 fn push_letter(text: &mut String, letter: char, number: u32) -> Result<(), AllocError> {
     match letter {
         '#' => write!(text, "{number}"),

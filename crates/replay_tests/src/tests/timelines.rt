@@ -1,12 +1,14 @@
-//! Timelines: how many lanes a picture has, what a lane shows, and that no two of its intervals are at one place.
+//! Timelines: how many lanes a picture has, what a lane shows, and that no two of its intervals are
+//! at one place.
 use super::holds;
-use super::tool::Words;
+use super::tool::CommandWords;
 use replay_tool::run_tool;
 use std::alloc::Global;
 use std::process::Abort;
 use std::test::Fail;
 
-// Services of each shade: `web` pauses, `db` gets ready, `job` fails for good, `off` stays down, `old` is dropped and comes again.
+// Services of each shade: `web` pauses, `db` gets ready, `job` fails for good, `off` stays down,
+// `old` is dropped and comes again.
 const SCRIPT: &str = "s6-script 1
 0 1 scan db:notify=3 job:finish off:down old web
 0 1 started 5 1 500
@@ -59,7 +61,8 @@ const LANES: &[(&str, &str)] = &[
     ),
 ];
 
-// Marks of the axis, written by hand: eleven, each a fifth of a second behind the one before it. The lanes begin at 60.
+// Marks of the axis, written by hand: eleven, each a fifth of a second behind the one before it.
+// The lanes begin at 60.
 const MARKS: &[&str] = &[
     "<text x=\"60\" y=\"170\" text-anchor=\"middle\">0.000</text>",
     "<text x=\"160\" y=\"170\" text-anchor=\"middle\">0.200</text>",
@@ -129,7 +132,7 @@ fn check_lane(
 fn a_lane_for_each_service(rt: HostRuntime) -> Result<(), Fail> {
     let mut output = Vec::new(rt.alloc());
     let mut errors = Vec::new(rt.alloc());
-    let words = Words(&[b"replay", b"--timeline"]);
+    let words = CommandWords(&[b"replay", b"--timeline"]);
     let input = SCRIPT.as_bytes();
     let status = run_tool(
         &words,
@@ -162,7 +165,7 @@ fn a_lane_for_each_service(rt: HostRuntime) -> Result<(), Fail> {
 fn no_picture_of_a_fault(rt: HostRuntime) {
     let mut output = Vec::new(rt.alloc());
     let mut errors = Vec::new(rt.alloc());
-    let words = Words(&[b"replay", b"--timeline"]);
+    let words = CommandWords(&[b"replay", b"--timeline"]);
     let input = b"s6-script 1\n0 1 scan web\n0 1 tock\n";
     let status = run_tool(
         &words,

@@ -44,7 +44,7 @@ fn tells_of_each_fault_with_its_status(rt: HostRuntime) {
 
 // The words of a command line, behind the program's name.
 #[derive(Drop)]
-pub struct Words<'a>(pub &'a [&'a [u8]]);
+pub struct CommandWords<'a>(pub &'a [&'a [u8]]);
 
 // Copies the word to the front of the buffer.
 fn fill(word: &[u8], buf: &mut [u8]) -> Result<usize, FillError>
@@ -57,7 +57,7 @@ fn fill(word: &[u8], buf: &mut [u8]) -> Result<usize, FillError>
     Ok(word.len())
 }
 
-impl<'a> Env for Words<'a> {
+impl<'a> Env for CommandWords<'a> {
     fn arg(&self, i: usize, buf: &mut [u8]) -> Result<usize, FillError> {
         if i == 0 {
             return fill(b"s6_tree", buf);
@@ -77,9 +77,10 @@ impl<'a> Env for Words<'a> {
     }
 }
 
-// A run of the program: its words, its standard input, its status, its standard output, its standard error.
+// A run of the program: its words, its standard input, its status, its standard output, its
+// standard error.
 #[derive(Clone, Copy)]
-struct Run {
+struct ProgramRun {
     words: &'static [&'static [u8]],
     input: &'static str,
     status: u8,
@@ -87,43 +88,43 @@ struct Run {
     errors: &'static str,
 }
 
-const RUNS: &[Run] = &[
-    Run {
+const RUNS: &[ProgramRun] = &[
+    ProgramRun {
         words: &[b"--help"],
         input: SCRIPT,
         status: 0,
         output: HELP,
         errors: "",
     },
-    Run {
+    ProgramRun {
         words: &[b"--version"],
         input: SCRIPT,
         status: 0,
         output: "s6_tree (Reskjavin) 0.1.0\n",
         errors: "",
     },
-    Run {
+    ProgramRun {
         words: &[b"replay", b"--help"],
         input: SCRIPT,
         status: 0,
         output: REPLAY_HELP,
         errors: "",
     },
-    Run {
+    ProgramRun {
         words: &[b"replay", b"-h"],
         input: SCRIPT,
         status: 0,
         output: REPLAY_HELP,
         errors: "",
     },
-    Run {
+    ProgramRun {
         words: &[b"replay"],
         input: SCRIPT,
         status: 0,
         output: "1 done\n",
         errors: "",
     },
-    Run {
+    ProgramRun {
         words: &[b"replay"],
         input: "s6-script 1\n0 1 tick",
         status: 100,
@@ -131,42 +132,42 @@ const RUNS: &[Run] = &[
         errors: "replay: truncated\n",
     },
     // The worked row `pattern-that-does-not-build`.
-    Run {
+    ProgramRun {
         words: &[b"replay"],
         input: "s6-script 1\n0 1 subscribe dir q once (\n",
         status: 100,
         output: "",
         errors: "replay: pattern in line 2\n",
     },
-    Run {
+    ProgramRun {
         words: &[b"replay", b"--migrate"],
         input: SCRIPT,
         status: 0,
         output: "s6-script 2\n0 1 tick\n= done\n",
         errors: "",
     },
-    Run {
+    ProgramRun {
         words: &[b"replay", b"--migrate"],
         input: "s6-script 2\n0 1 tick\n= done\n",
         status: 100,
         output: "",
         errors: "replay: no head line\n",
     },
-    Run {
+    ProgramRun {
         words: &[b"replay", b"--check"],
         input: "s6-script 2\n0 1 tick\n= done\n",
         status: 0,
         output: "legal 1\n",
         errors: "",
     },
-    Run {
+    ProgramRun {
         words: &[b"replay", b"--check"],
         input: "s6-script 2\n0 1 tick\n= refused Stale\n",
         status: 1,
         output: "differs at line 3\n",
         errors: "",
     },
-    Run {
+    ProgramRun {
         words: &[b"replay", b"--check"],
         input: SCRIPT,
         status: 100,
@@ -219,11 +220,11 @@ const UNKNOWN_OPTIONS: &[&[&[u8]]] = &[
 ];
 
 // Runs the program, and compares how it ends.
-fn check_run(rt: &impl Abort, alloc: Global, run: &Run) {
+fn check_run(rt: &impl Abort, alloc: Global, run: &ProgramRun) {
     let mut output = Vec::new(alloc);
     let mut errors = Vec::new(alloc);
     let input = run.input.as_bytes();
-    let words = Words(run.words);
+    let words = CommandWords(run.words);
     let status = run_tool(&words, alloc, alloc, input, &mut output, &mut errors);
     same(rt, run.input, errors.as_slice(), run.errors.as_bytes());
     same(rt, run.input, output.as_slice(), run.output.as_bytes());
@@ -245,7 +246,7 @@ fn check_usage(
     errors: &'static str,
 ) {
     for words in lines {
-        let run = Run {
+        let run = ProgramRun {
             words: *words,
             input: SCRIPT,
             status: 100,
@@ -267,7 +268,7 @@ fn replay_on_heap(alloc: Global, bytes: usize) -> Result<Option<u8>, Fail> {
     let heap = LocalHeap::new(alloc, bytes)?;
     let mut output = Vec::new(alloc);
     let mut errors = Vec::new(alloc);
-    let words = Words(&[b"replay"]);
+    let words = CommandWords(&[b"replay"]);
     let input = SCRIPT.as_bytes();
     let status = run_tool(&words, &heap, alloc, input, &mut output, &mut errors);
     let is_told = match status {
@@ -314,7 +315,7 @@ impl Write for Unflushed {
 #[test]
 fn help_that_is_not_written_is_told(rt: HostRuntime) {
     let mut errors = Vec::new(rt.alloc());
-    let words = Words(&[b"--help"]);
+    let words = CommandWords(&[b"--help"]);
     let input = SCRIPT.as_bytes();
     let status = run_tool(
         &words,

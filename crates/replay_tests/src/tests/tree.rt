@@ -1,5 +1,6 @@
-//! What no clause says: that every act succeeds with ample memory, on a table of 64 and with the longest lists, and that each growth
-//! of a step may be refused. What a step gives is its clauses' matter; the worked rows run as scripts in `replay`.
+//! What no clause says: that every act succeeds with ample memory, on a table of 64 and with the
+//! longest lists, and that each growth of a step may be refused. What a step gives is its clauses'
+//! matter; the worked rows run as scripts in `replay`.
 use super::templates::{make_text, push_template};
 use super::{holds, same};
 use linked_list_allocator::LocalHeap;
@@ -10,8 +11,9 @@ use std::process::Abort;
 use std::test::Fail;
 use tree_core::{Act, Effect, Input, State, Tree, WaitState};
 
-// What each of 64 services in turn is told, in a template, and how many events, orders, matches and releases that gives in all. `&`
-// stands for the names of 64 services, and of a directory that couldn't be read. Each waits for the first service and the last.
+// What each of 64 services in turn is told, in a template, and how many events, orders, matches and
+// releases that gives in all. `&` stands for the names of 64 services, and of a directory that
+// couldn't be read. Each waits for the first service and the last.
 const ROUNDS: &str = "0 1 scan& > 64 64 0 0
 0 1 started # 1 500 > 64 0 0 0
 0 1 notify # 1 6161616161616161616161616161616161616161616161616161616161616161616161616161616161616161616161616161616161616161616161616161610a > 64 0 0 0
@@ -40,14 +42,14 @@ const ROUNDS: &str = "0 1 scan& > 64 64 0 0
 
 // How much the tree gave.
 #[derive(Clone, Copy)]
-struct Given {
+struct GivenCounts {
     events: usize,
     orders: usize,
     matched: usize,
     released: usize,
 }
 
-impl Given {
+impl GivenCounts {
     fn add(&mut self, effect: &Effect<Global>) {
         self.events = self.events.saturating_add(effect.events.len());
         self.orders = self.orders.saturating_add(effect.orders.len());
@@ -68,7 +70,12 @@ fn line_of(alloc: Global, template: &str, serial: u32) -> Result<String, AllocEr
 }
 
 // The tree takes the input of this line, with ample memory.
-fn take(alloc: Global, tree: &mut Tree<Global>, line: &str, given: &mut Given) -> Result<(), Fail> {
+fn take(
+    alloc: Global,
+    tree: &mut Tree<Global>,
+    line: &str,
+    given: &mut GivenCounts,
+) -> Result<(), Fail> {
     let input = parse_line(alloc, alloc, line.as_bytes())?;
     let effect = tree.apply(input).ok().ok_or("memory")?;
     given.add(&effect);
@@ -76,8 +83,8 @@ fn take(alloc: Global, tree: &mut Tree<Global>, line: &str, given: &mut Given) -
 }
 
 // All 64 services are told this: how much that gives.
-fn tell_all(alloc: Global, tree: &mut Tree<Global>, template: &str) -> Result<Given, Fail> {
-    let mut given = Given {
+fn tell_all(alloc: Global, tree: &mut Tree<Global>, template: &str) -> Result<GivenCounts, Fail> {
+    let mut given = GivenCounts {
         events: 0,
         orders: 0,
         matched: 0,
@@ -90,8 +97,8 @@ fn tell_all(alloc: Global, tree: &mut Tree<Global>, template: &str) -> Result<Gi
     Ok(given)
 }
 
-fn written(alloc: Global, given: Given) -> Result<String, Fail> {
-    let Given {
+fn written(alloc: Global, given: GivenCounts) -> Result<String, Fail> {
+    let GivenCounts {
         events,
         orders,
         matched,
@@ -145,8 +152,8 @@ fn every_act_succeeds_with_ample_memory(rt: HostRuntime) -> Result<(), Fail> {
     take_rounds(&rt, rt.alloc(), &mut tree)
 }
 
-// Every act, to the first service or all: each makes something grow, but for the permafailon and the last two. One wait has more names
-// than it may.
+// Every act, to the first service or all: each makes something grow, but for the permafailon and
+// the last two. One wait has more names than it may.
 const LINES: &str = "0 1 scan s01:finish,notify=3 s02:finish,notify=3 s03:finish,notify=3
 0 1 started 1 1 500
 0 1 wait u a 0 s01
@@ -173,9 +180,9 @@ const LINES: &str = "0 1 scan s01:finish,notify=3 s02:finish,notify=3 s03:finish
 1008 1 status s01
 1008 1 tick";
 
-// What a refused input may not change: of the input its moment, and the number of names that it waits for or of bytes of its pattern;
-// of the tree the clock, the steps, the number of rows, where the first two waiters stand, and how many letters the second
-// subscription has heard.
+// What a refused input may not change: of the input its moment, and the number of names that it
+// waits for or of bytes of its pattern; of the tree the clock, the steps, the number of rows, where
+// the first two waiters stand, and how many letters the second subscription has heard.
 #[derive(PartialEq, Drop)]
 struct Before {
     moment: u64,
@@ -209,7 +216,8 @@ fn seen_in<A: Allocator + Copy>(tree: &Tree<A>, input: &Input<A>) -> Before {
     }
 }
 
-// The tree takes the input, at once or, where a growth was refused, once more without the filler; whether one was refused.
+// The tree takes the input, at once or, where a growth was refused, once more without the filler;
+// whether one was refused.
 fn applies_at_last<A: Allocator + Copy>(
     tree: &mut Tree<A>,
     input: Input<A>,
@@ -229,7 +237,8 @@ fn applies_at_last<A: Allocator + Copy>(
     }
 }
 
-// One line on a heap that has so many bytes left until a refusal gives it ample ones: whether there was one.
+// One line on a heap that has so many bytes left until a refusal gives it ample ones: whether there
+// was one.
 fn apply_line<'a>(
     heap: &'a LocalHeap,
     patterns: Global,

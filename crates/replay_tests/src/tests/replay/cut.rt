@@ -46,7 +46,8 @@ fn fault_of(part: &[u8]) -> Option<ReplayFault> {
     }
 }
 
-// A replay of so many bytes of the script stopped with this fault, or with none, behind the blocks of the lines in these bytes.
+// A replay of so many bytes of the script stopped with this fault, or with none, behind the blocks
+// of the lines in these bytes.
 fn check_stopped(rt: &impl Abort, found: &Replayed, bytes: usize, wanted: Option<ReplayFault>) {
     let blocks = count_blocks(TRANSCRIPT, found.written.as_slice());
     let lines = whole_lines(SCRIPT.as_bytes().get(..bytes).unwrap_or(&[]));

@@ -1,4 +1,5 @@
-//! Images of trees and plain inputs at each step of the worked rows: where memory is ample there is one, and each growth may be refused.
+//! Images of trees and plain inputs at each step of the worked rows: where memory is ample there is
+//! one, and each growth may be refused.
 use super::rows::{FAULTY_ROWS, ROWS};
 use super::{Case, holds};
 use linked_list_allocator::LocalHeap;
@@ -48,7 +49,8 @@ fn is_copied_in<'a>(heap: &'a LocalHeap, copied: &Copied<'a, '_>, left: usize) -
     is_copied(heap, copied)
 }
 
-// How often a copy is refused, with more and more memory, until there is one. With all memory there is one.
+// How often a copy is refused, with more and more memory, until there is one. With all memory there
+// is one.
 fn count_refused<'a>(rt: &impl Abort, heap: &'a LocalHeap, copied: &Copied<'a, '_>) -> u32 {
     let mut refused = 0u32;
     for step in 0..400usize {

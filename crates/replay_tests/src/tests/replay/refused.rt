@@ -1,4 +1,5 @@
-//! Growths that are refused: the same work on heaps of a growing size, each of which refuses the first growth that it has no place for.
+//! Growths that are refused: the same work on heaps of a growing size, each of which refuses the
+//! first growth that it has no place for.
 use super::printing::reply_alone;
 use super::recorded::MIGRATIONS;
 use super::{Case, count_blocks, holds, words_of};
@@ -150,7 +151,7 @@ const LINES: &str = "0 1 scan web:finish,kill=7 other
 
 // What is done on a heap.
 #[derive(Clone, Copy)]
-enum Work<'a> {
+enum HeapWork<'a> {
     Replay(Case<'a>),
     /// The written script is a recorded one.
     Migrate(Case<'a>),
@@ -174,7 +175,8 @@ enum Reached {
     Wrong,
 }
 
-// How far a replay or a migration came with this answer, behind so many whole parts; all is written, or not.
+// How far a replay or a migration came with this answer, behind so many whole parts; all is
+// written, or not.
 fn reached_by(
     alloc: Global,
     answer: Result<Counts, ReplayFault>,
@@ -204,7 +206,8 @@ fn replay_on(heap: &LocalHeap, alloc: Global, case: &Case) -> Result<Reached, Fa
     reached_by(alloc, answer, blocks, text == case.written.as_bytes(), case)
 }
 
-// How many whole steps of a recorded script the text has, each an input line and a reply line, or None where it is no such beginning.
+// How many whole steps of a recorded script the text has, each an input line and a reply line, or
+// None where it is no such beginning.
 fn count_steps(recorded: &str, text: &[u8]) -> Option<usize> {
     if text.is_empty() {
         return Some(0);
@@ -287,25 +290,25 @@ fn print_on(heap: &LocalHeap, alloc: Global) -> Reached {
 }
 
 // How far the work comes on a heap of so many bytes.
-fn do_work(alloc: Global, work: &Work, bytes: usize) -> Result<Reached, Fail> {
+fn do_work(alloc: Global, work: &HeapWork, bytes: usize) -> Result<Reached, Fail> {
     let heap = LocalHeap::new(alloc, bytes)?;
     match work {
-        Work::Replay(case) => replay_on(&heap, alloc, case),
-        Work::Migrate(case) => migrate_on(&heap, alloc, case),
-        Work::Check(case) => Ok(check_on(&heap, alloc, case)),
-        Work::Parse(line) => Ok(parse_on(&heap, alloc, *line)),
-        Work::Spell(line) => Ok(spell_on(&heap, alloc, *line)),
-        Work::Print => Ok(print_on(&heap, alloc)),
+        HeapWork::Replay(case) => replay_on(&heap, alloc, case),
+        HeapWork::Migrate(case) => migrate_on(&heap, alloc, case),
+        HeapWork::Check(case) => Ok(check_on(&heap, alloc, case)),
+        HeapWork::Parse(line) => Ok(parse_on(&heap, alloc, *line)),
+        HeapWork::Spell(line) => Ok(spell_on(&heap, alloc, *line)),
+        HeapWork::Print => Ok(print_on(&heap, alloc)),
     }
 }
 
-// On heaps of a growing size each growth is the first one refused, up to 40 heaps on which the work comes to its end. On so many others,
-// or more, it comes nowhere.
+// On heaps of a growing size each growth is the first one refused, up to 40 heaps on which the work
+// comes to its end. On so many others, or more, it comes nowhere.
 fn refuse_in_turn(
     rt: &impl Abort,
     alloc: Global,
     row: &str,
-    work: &Work,
+    work: &HeapWork,
     least: u32,
 ) -> Result<(), Fail> {
     let mut ended = 0u32;
@@ -329,7 +332,7 @@ fn refuse_in_turn(
 fn each_growth_of_a_replay_is_refused_in_turn(rt: HostRuntime) -> Result<(), Fail> {
     for text in SCRIPTS.split("# ") {
         let case = Case::read(text);
-        refuse_in_turn(&rt, rt.alloc(), case.name, &Work::Replay(case), 3)?;
+        refuse_in_turn(&rt, rt.alloc(), case.name, &HeapWork::Replay(case), 3)?;
     }
     Ok(())
 }
@@ -338,16 +341,16 @@ fn each_growth_of_a_replay_is_refused_in_turn(rt: HostRuntime) -> Result<(), Fai
 fn each_growth_of_recording_is_refused_in_turn(rt: HostRuntime) -> Result<(), Fail> {
     let text = MIGRATIONS.split("# ").next().ok_or("a migration")?;
     let case = Case::read(text);
-    refuse_in_turn(&rt, rt.alloc(), "a migration", &Work::Migrate(case), 3)?;
-    refuse_in_turn(&rt, rt.alloc(), "a check", &Work::Check(case), 3)
+    refuse_in_turn(&rt, rt.alloc(), "a migration", &HeapWork::Migrate(case), 3)?;
+    refuse_in_turn(&rt, rt.alloc(), "a check", &HeapWork::Check(case), 3)
 }
 
 #[test]
 fn each_growth_of_a_line_is_refused_in_turn(rt: HostRuntime) -> Result<(), Fail> {
     for line in LINES.split('\n') {
-        refuse_in_turn(&rt, rt.alloc(), line, &Work::Parse(line), 3)?;
+        refuse_in_turn(&rt, rt.alloc(), line, &HeapWork::Parse(line), 3)?;
     }
     let line = "5 3 notify 7 2 0a0b";
-    refuse_in_turn(&rt, rt.alloc(), line, &Work::Spell(line), 1)?;
-    refuse_in_turn(&rt, rt.alloc(), "a block", &Work::Print, 3)
+    refuse_in_turn(&rt, rt.alloc(), line, &HeapWork::Spell(line), 1)?;
+    refuse_in_turn(&rt, rt.alloc(), "a block", &HeapWork::Print, 3)
 }

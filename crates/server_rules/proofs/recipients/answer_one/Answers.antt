@@ -6,19 +6,19 @@ use Rattle.server_rules.proofs.recipients.answer_one.Goals as goal
 
 pub returns-in_default-clause-posts : goal.returns-in_default-clause-posts
 returns-in_default-clause-posts c =
-    rw (slice_get_past c.args.connections.now.items c.args.seat (search (rules, c.in_default.ensures.variant)))
+    rw (slice_get_past c.args.connections.now.items c.args.slot (search (rules, c.in_default.ensures.variant)))
     (sym (append-nil c.args.posts.now.items))
 
 pub returns-clause-connections : goal.returns-clause-connections
 returns-clause-connections c =
     rw (
-      slice_get_read c.args.connections.now.items _ c.args.seat c.in-Some.connection.now refl
+      slice_get_read c.args.connections.now.items _ c.args.slot c.in-Some.connection.now refl
           (search (rules, c.in-Some.ensures.variant)) c.in-Some.ensures.value,
       c.answered.ensures.next,
     ) refl
 
 pub returns-clause-posts : goal.returns-clause-posts
 returns-clause-posts c =
-    rw (slice_get_read c.args.connections.now.items _ c.args.seat c.in-Some.connection.now refl
+    rw (slice_get_read c.args.connections.now.items _ c.args.slot c.in-Some.connection.now refl
     (search (rules, c.in-Some.ensures.variant)) c.in-Some.ensures.value)
-    (c.add_post.ensures.posts ∙ ap (λ t. c.args.posts.now.items ++ posts_of c.args.seat None t) c.answered.ensures.todo)
+    (c.add_post.ensures.posts ∙ ap (λ t. c.args.posts.now.items ++ posts_of c.args.slot None t) c.answered.ensures.todo)

@@ -2,7 +2,7 @@ use Rattle.std.proofs.Common.{◌<◌, arith, length, set, sym, ap, ◌∙◌}
 use Rattle.std.proofs.lemmas.List.Edits.{map_over_more}
 use Rattle.s6_events.specs.Newest.{mark_of}
 use Rattle.wait_conditions.specs.declared.watched_service.WatchedService.{WatchedService}
-use Rattle.wait_conditions.specs.declared.counts.Counts.{Counts}
+use Rattle.wait_conditions.specs.declared.counts.ServiceCounts.{ServiceCounts}
 use Rattle.wait_conditions.specs.Watched.{watched_after}
 use Rattle.wait_conditions.specs.Counts.{counts_of, counts_after}
 use Rattle.wait_conditions.proofs.Counted.{counts_of-set}
@@ -21,7 +21,7 @@ loop-i-preserved c =
           ∙ map_over_more f c.args.watched.now ws c.loop-i.i was c.loop-i-test.true c.loop-i.invariant.watched c.index-watched-i.is;
       counted =
           c.after-counts.ensures
-          ∙ (ap (λ (k : Counts). counts_after k was now) c.loop-i.invariant.counted
+          ∙ (ap (λ (k : ServiceCounts). counts_after k was now) c.loop-i.invariant.counted
           ∙ (ap (λ (w : WatchedService). counts_after (counts_of ws) w now) c.index-watched-i.is
           ∙ sym (counts_of-set ws c.loop-i.i now was within)));
     }

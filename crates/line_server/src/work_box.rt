@@ -1,31 +1,31 @@
 //! Where a thread gets one thing after another to work on. Other threads give them.
 use std::sync::{Condvar, Mutex, Wait};
 
-// What was given and not taken yet, whether the thread works on what it took, and whether the desk was ended.
+// How far the work in a box is.
 #[derive(Drop)]
 struct Work<T> {
+    // What was given and not taken yet.
     given: Option<T>,
+    // Whether the thread works on what it took.
     is_under_way: bool,
+    // Whether the box was ended.
     is_over: bool,
 }
 
 /// Gives a thread one thing at a time to work on.
 #[derive(Drop)]
-pub struct WorkDesk<T> {
+pub struct WorkBox<T> {
     work: Mutex<Work<T>>,
     changed: Condvar,
 }
 
-impl<T: Drop> WorkDesk<T> {
-    /// A desk at which nothing was given.
-    pub fn new() -> WorkDesk<T> {
-        WorkDesk {
+impl<T: Drop> WorkBox<T> {
+    /// A box into which nothing was given.
+    pub fn new() -> WorkBox<T> {
+        WorkBox {
             work: Mutex::new(Work {
-                // What was given and not taken yet.
                 given: None,
-                // Whether the thread works on what it took.
                 is_under_way: false,
-                // Whether the desk was ended.
                 is_over: false,
             }),
             // Notified when one of these changes.
@@ -33,7 +33,8 @@ impl<T: Drop> WorkDesk<T> {
         }
     }
 
-    /// Gives the thread a thing to work on. The thing comes back where the one before is not done, or the desk was ended.
+    /// Gives the thread a thing to work on. The thing comes back where the one before is not done,
+    /// or the box was ended.
     pub fn give<R: Wait>(&self, rt: &R, thing: T) -> Result<(), T> {
         let mut work = self.work.lock(rt);
         if work.is_over || work.is_under_way || work.given.is_some() {
@@ -44,12 +45,13 @@ impl<T: Drop> WorkDesk<T> {
         Ok(())
     }
 
-    /// Waits for the next thing, and takes it to work on it; None once the desk was ended and nothing is left.
-    pub fn take<R: Wait>(&self, rt: &R) -> Option<T> {
+    /// Waits for the next thing, and takes it to work on it; None once the box was ended and
+    /// nothing is left.
+    pub fn await_next<R: Wait>(&self, rt: &R) -> Option<T> {
         let mut work = self.changed.wait_while(rt, self.work.lock(rt), |work| {
             !work.is_over && work.given.is_none()
         });
-        // The wait is over: where nothing was given, the desk was ended.
+        // The wait is over: where nothing was given, the box was ended.
         let thing = work.given.take()?;
         work.is_under_way = true;
         Some(thing)
@@ -62,14 +64,15 @@ impl<T: Drop> WorkDesk<T> {
         self.changed.notify_all();
     }
 
-    /// Waits until all that was given is done; after the end of the desk, only until what the thread has taken is done.
+    /// Waits until all that was given is done; after the end of the box, only until what the
+    /// thread has taken is done.
     pub fn await_done<R: Wait>(&self, rt: &R) {
         let _work = self.changed.wait_while(rt, self.work.lock(rt), |work| {
             work.is_under_way || (work.given.is_some() && !work.is_over)
         });
     }
 
-    /// Ends the desk: nothing more can be given.
+    /// Ends the box: nothing more can be given.
     pub fn end<R: Wait>(&self, rt: &R) {
         let mut work = self.work.lock(rt);
         work.is_over = true;

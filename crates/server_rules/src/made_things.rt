@@ -1,6 +1,6 @@
-//! The standing of a connection: the waiters and the subscriptions that it made, and the services that it follows.
+//! What a connection made: its waiters and its subscriptions; and the services that it follows.
 ghost use Rattle.std.specs.Prelude.{◌≡◌, ◌∷◌, [], true, None, OnOk, Some, IfSome, IfNone, option_map, length, filter, not, ◌==◌};
-ghost use Rattle.server_rules.specs.Standing.{admission_of, after_release, after_reply, change_of, has_place, has_room_for, is_among, is_followed, is_told_more, let_go, next_end, nothing_made, waiter_admission, without};
+ghost use Rattle.server_rules.specs.Made.{admission_of, after_release, after_reply, change_of, has_place, has_room_for, is_among, is_followed, is_told_more, let_go, next_end, nothing_made, waiter_admission, without};
 
 use crate::following::Following;
 use arrayvec::ArrayVec;
@@ -9,15 +9,17 @@ use std::alloc::Global;
 use std::marker::Model;
 use tree_core::{Act, Reply};
 
-/// The most waiters of one connection at one time, with those that were released and not yet cancelled.
-pub const WAITER_LIMIT: usize = 64;
+/// The most waiters of one connection at one time, with those that were released and not yet
+/// cancelled.
+pub const CLIENT_WAITER_LIMIT: usize = 64;
 
 /// The most subscriptions of one connection at one time.
-pub const SUBSCRIPTION_LIMIT: usize = 32;
+pub const CLIENT_SUBSCRIPTION_LIMIT: usize = 32;
 
-/// What an act makes or ends for its connection, once it is done. `Other` is an act that makes or ends no waiter and no subscription.
+/// What an act makes or ends for its connection, once it is done. `Other` is an act that makes or
+/// ends no waiter and no subscription.
 #[derive(Clone, Copy, PartialEq, Eq, Debug)]
-pub enum StandingChange {
+pub enum MadeChange {
     Other,
     MakesWaiter,
     MakesSubscription,
@@ -25,17 +27,17 @@ pub enum StandingChange {
     EndsSubscription(SubId),
 }
 
-impl StandingChange {
+impl MadeChange {
     /// What this act makes or ends, once it is done.
-    pub fn of(act: &Act<Global>) -> StandingChange
+    pub fn of(act: &Act<Global>) -> MadeChange
         ensures { result ≡ change_of act.now }
     {
         match act {
-            Act::Wait(..) => StandingChange::MakesWaiter,
-            Act::Subscribe(..) => StandingChange::MakesSubscription,
-            Act::Cancel(id) => StandingChange::EndsWaiter(*id),
-            Act::Unsubscribe(id) => StandingChange::EndsSubscription(*id),
-            _ => StandingChange::Other,
+            Act::Wait(..) => MadeChange::MakesWaiter,
+            Act::Subscribe(..) => MadeChange::MakesSubscription,
+            Act::Cancel(id) => MadeChange::EndsWaiter(*id),
+            Act::Unsubscribe(id) => MadeChange::EndsSubscription(*id),
+            _ => MadeChange::Other,
         }
     }
 }
@@ -45,32 +47,34 @@ impl StandingChange {
 pub enum Admission {
     /// It is done.
     Admitted,
-    /// The connection has as many waiters as it may have: one of them that was released is cancelled first, and then the act is done.
+    /// The connection has as many waiters as it may have: one of them that was released is
+    /// cancelled first, and then the act is done.
     AfterReleased,
     /// It is refused: the connection has as many as it may have of what the act makes.
     Refused,
 }
 
-/// What a connection made: its waiters and its subscriptions, in the order made, with the released waiters apart, in the order in which
-/// they were told; and the services that it follows. A waiter or a subscription that is over is listed too: it counts for the limits of the
-/// tree until it is cancelled.
+/// What a connection made: its waiters and its subscriptions, in the order made, with the released
+/// waiters apart, in the order in which they were told; and the services that it follows. A waiter
+/// or a subscription that is over is listed too: it counts for the limits of the tree until it is
+/// cancelled.
 #[derive(Drop)]
-pub struct Standing {
+pub struct MadeThings {
     /// The serials of the waiters that wait still.
-    waiters: ArrayVec<u64, WAITER_LIMIT>,
+    waiters: ArrayVec<u64, CLIENT_WAITER_LIMIT>,
     /// The serials of the waiters whose release was told.
-    released: ArrayVec<u64, WAITER_LIMIT>,
+    released: ArrayVec<u64, CLIENT_WAITER_LIMIT>,
     /// The serials of the subscriptions.
-    subscriptions: ArrayVec<u64, SUBSCRIPTION_LIMIT>,
+    subscriptions: ArrayVec<u64, CLIENT_SUBSCRIPTION_LIMIT>,
     /// Whose letters it is told.
     follows: Following,
     /// The wait that is handed in once a released waiter has ended.
     put_off: Option<Act<Global>>,
 }
 
-impl Model for Standing {
+impl Model for MadeThings {
     ghost use Rattle.std.specs.Prelude.{◌+◌, ◌≤◌, length};
-    ghost use Rattle.server_rules.specs.Standing.{Made};
+    ghost use Rattle.server_rules.specs.Made.{Made};
 
     ghost Value = { Made };
 
@@ -101,12 +105,12 @@ fn take_first<const CAP: usize>(serials: &mut ArrayVec<u64, CAP>) -> Option<u64>
     serials.pop_at(0)
 }
 
-impl Standing {
+impl MadeThings {
     /// Nothing was made, and nothing is followed.
-    pub fn new() -> Standing
+    pub fn new() -> MadeThings
         ensures { result ≡ nothing_made }
     {
-        Standing {
+        MadeThings {
             waiters: ArrayVec::new(),
             released: ArrayVec::new(),
             subscriptions: ArrayVec::new(),
@@ -127,11 +131,12 @@ impl Standing {
         }
     }
 
-    // Whether, and when, the connection may make one more waiter: those that wait and those that were released may be 64 together.
+    // Whether, and when, the connection may make one more waiter: those that wait and those that
+    // were released may be 64 together.
     fn admission_of_waiter(&self) -> Admission
         ensures { result ≡ waiter_admission self.now }
     {
-        if self.waiters.len() + self.released.len() < WAITER_LIMIT {
+        if self.waiters.len() + self.released.len() < CLIENT_WAITER_LIMIT {
             Admission::Admitted
         } else if self.released.is_empty() {
             Admission::Refused
@@ -140,37 +145,39 @@ impl Standing {
         }
     }
 
-    /// Whether something may still be told to the connection: it has a waiter that waits, or a subscription, or follows services.
+    /// Whether something may still be told to the connection: it has a waiter that waits, or a
+    /// subscription, or follows services.
     pub fn is_told_more(&self) -> bool
         ensures { result ≡ is_told_more self.now }
     {
         !(self.waiters.is_empty() && self.subscriptions.is_empty()) || self.follows.is_any()
     }
 
-    /// Notes what an act made or ended, by the reply to it. Where the reply refuses the act, nothing changes.
-    pub fn note_reply(&mut self, change: StandingChange, reply: &Reply<Global>)
+    /// Notes what an act made or ended, by the reply to it. Where the reply refuses the act,
+    /// nothing changes.
+    pub fn note_reply(&mut self, change: MadeChange, reply: &Reply<Global>)
         requires { has_room_for change self.old ≡ true }
         ensures { self.new ≡ after_reply change reply.now self.old }
     {
         match change {
-            StandingChange::Other => {}
-            StandingChange::MakesWaiter => {
+            MadeChange::Other => {}
+            MadeChange::MakesWaiter => {
                 if let Reply::Waiter(id) = reply {
                     self.waiters.push(id.0);
                 }
             }
-            StandingChange::MakesSubscription => {
+            MadeChange::MakesSubscription => {
                 if let Reply::Subscription(id) = reply {
                     self.subscriptions.push(id.0);
                 }
             }
-            StandingChange::EndsWaiter(id) => {
+            MadeChange::EndsWaiter(id) => {
                 if let Reply::Done = reply {
                     drop_serial(&mut self.waiters, id.0);
                     drop_serial(&mut self.released, id.0);
                 }
             }
-            StandingChange::EndsSubscription(id) => {
+            MadeChange::EndsSubscription(id) => {
                 if let Reply::Done = reply {
                     drop_serial(&mut self.subscriptions, id.0);
                 }
@@ -178,7 +185,8 @@ impl Standing {
         }
     }
 
-    /// The release of this waiter was told: it waits no more, but it stays among the released ones until it is cancelled.
+    /// The release of this waiter was told: it waits no more, but it stays among the released ones
+    /// until it is cancelled.
     pub fn note_release(&mut self, id: WaitId)
         requires { is_among id self.old.waiters ≡ true }
         ensures { self.new ≡ after_release id self.old }
@@ -238,8 +246,9 @@ impl Standing {
         self.follows.covers(name)
     }
 
-    /// Takes out the waiter that was released first, which is cancelled to make place for a new one; None where none was. `released` lists the
-    /// serials of the waiters whose release was told.
+    /// Takes out the waiter that was released first, which is cancelled to make place for a new
+    /// one; None where none was. `released` lists the serials of the waiters whose release was
+    /// told.
     pub fn take_released(&mut self) -> Option<WaitId>
         ensures first { IfSome result
             (λ id. self.old ≡ record self.new { released = id ∷ self.new.released }) }
@@ -253,8 +262,9 @@ impl Standing {
         }
     }
 
-    /// Takes out what is ended next for a client that has left, and returns the act that ends it: the released waiters first, whose release was
-    /// told, then the others, then the subscriptions, each in the order listed; None where there is none of them. `released`, `waiters` and
+    /// Takes out what is ended next for a client that has left, and returns the act that ends it:
+    /// the released waiters first, whose release was told, then the others, then the subscriptions,
+    /// each in the order listed; None where there is none of them. `released`, `waiters` and
     /// `subscriptions` are lists of serials.
     pub fn take_next(&mut self) -> Option<Act<Global>>
         ensures act { result ≡ option_map (λ e. e.act) (next_end self.old) }

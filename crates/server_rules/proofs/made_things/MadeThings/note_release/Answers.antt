@@ -1,6 +1,6 @@
 use Rattle.std.proofs.Common.{rules}
 use Rattle.server_rules.proofs.Shorter.{fits}
-use Rattle.server_rules.proofs.standing.Standing.note_release.Goals as goal
+use Rattle.server_rules.proofs.made_things.MadeThings.note_release.Goals as goal
 
 pub invariant_of-self : goal.invariant_of-self
 invariant_of-self c =

@@ -1,4 +1,5 @@
-//! A shot that the board keeps, and readers see: the status rows of all services, and the number of steps that the tree had made before (`at`).
+//! A shot that the board keeps, and readers see: the status rows of all services, and the number of
+//! steps that the tree had made before (`at`).
 ghost use Rattle.std.specs.Prelude.{◌≡◌, ◌≤◌, IfOk, Some, length};
 ghost use Rattle.status_board.specs.Board.{last_shot};
 
@@ -9,8 +10,8 @@ use std::alloc::{AllocError, Allocator};
 use std::marker::Model;
 use supervise_core::Row;
 
-/// The rows of all services as they are after some step, in a list on the heap. A `Shot` has a fixed 256 places for them. Contracts see them
-/// as a shot.
+/// The rows of all services as they are after some step, in a list on the heap. A `Shot` has a
+/// fixed 256 places for them. Contracts see them as a shot.
 #[derive(Drop)]
 pub struct StandingRows<A: Allocator> {
     // How many steps the tree had made when the rows were taken.
@@ -30,7 +31,8 @@ impl<A: Allocator> Model for StandingRows<A> {
 }
 
 impl<A: Allocator> StandingRows<A> {
-    /// The rows of a tree, at most [`ROW_LIMIT`](crate::ROW_LIMIT), in rising serial, and after how many steps they were taken.
+    /// The rows of a tree, at most [`SERVICE_LIMIT`](crate::SERVICE_LIMIT), in rising serial, and
+    /// after how many steps they were taken.
     pub fn new(at: u64, rows: Vec<Row, A>) -> StandingRows<A>
         requires { length rows.items ≤ 256 }
         ensures { result ≡ record { at = at; rows = record { items = rows.items } } }
@@ -62,20 +64,21 @@ impl<A: Allocator> StandingRows<A> {
             .try_extend_from_slice(self.rows.as_slice())
             .is_err()
         {
-            // There are at most `ROW_LIMIT` rows, for which a shot has room.
+            // There are at most `SERVICE_LIMIT` rows, for which a shot has room.
             unreachable!()
         }
     }
 }
 
-/// A shot that was published, and all shots that were published up to it. Contracts see all of them.
+/// A shot that was published, and all shots that were published up to it. Contracts see all of
+/// them.
 #[derive(Drop)]
-pub struct Change<C: Channels, A: Allocator> {
+pub struct PublishedShot<C: Channels, A: Allocator> {
     rows: StandingRows<A>,
     published: Published<C>,
 }
 
-impl<C: Channels, A: Allocator> Model for Change<C, A> {
+impl<C: Channels, A: Allocator> Model for PublishedShot<C, A> {
     ghost use Rattle.std.specs.Prelude.{◌≡◌, List, Some};
     ghost use Rattle.status_board.specs.declared.shot.Shot.{Shot};
     ghost use Rattle.status_board.specs.Board.{last_shot};
@@ -87,13 +90,13 @@ impl<C: Channels, A: Allocator> Model for Change<C, A> {
     ghost invariant = { λ c. last_shot c.published ≡ Some c.rows };
 }
 
-impl<C: Channels, A: Allocator> Change<C, A> {
+impl<C: Channels, A: Allocator> PublishedShot<C, A> {
     // The shot that was published last, with all that were published.
-    pub(crate) fn new(rows: StandingRows<A>, published: Published<C>) -> Change<C, A>
+    pub(crate) fn new(rows: StandingRows<A>, published: Published<C>) -> PublishedShot<C, A>
         requires { last_shot published ≡ Some rows }
         ensures { result ≡ published }
     {
-        Change { rows, published }
+        PublishedShot { rows, published }
     }
 
     // Copies the shot that was published last into this one.

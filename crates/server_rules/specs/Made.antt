@@ -1,4 +1,4 @@
--- The standing of a connection, and what a request of it may make.
+-- What a connection made, and what a request of it may make.
 use Rattle.std.specs.Prelude.{ℕ, ◌+◌, ◌==◌, ◌&&◌, ◌||◌, List, [], ◌∷◌, ◌++◌, Bool, true, false, filter, length, not, nat_lt, Option, Some, None, if◌then◌else◌}
 use Rattle.std.specs.List.{list_any}
 use Rattle.std.specs.Str.{bytes_eq}
@@ -9,12 +9,12 @@ use Rattle.tree_core.specs.declared.reply.Reply.{Reply}
 use Rattle.tree_core.specs.declared.reply.Reply.TheVariants as reply
 use Rattle.server_rules.specs.declared.following.Following.{Following}
 use Rattle.server_rules.specs.declared.following.Following.TheVariants as following
-use Rattle.server_rules.specs.declared.standing.Admission.{Admission}
-use Rattle.server_rules.specs.declared.standing.Admission.TheVariants as admission
-use Rattle.server_rules.specs.declared.standing.StandingChange.{StandingChange}
-use Rattle.server_rules.specs.declared.standing.StandingChange.TheVariants as change
+use Rattle.server_rules.specs.declared.made_things.Admission.{Admission}
+use Rattle.server_rules.specs.declared.made_things.Admission.TheVariants as admission
+use Rattle.server_rules.specs.declared.made_things.MadeChange.{MadeChange}
+use Rattle.server_rules.specs.declared.made_things.MadeChange.TheVariants as change
 
--- the standing of a connection: the waiters that wait and the subscriptions, each in the order made; the waiters whose release was told, in
+-- what a connection made: the waiters that wait and the subscriptions, each in the order made; the waiters whose release was told, in
 -- the order told; the services whose letters it follows; and the wait that is put off until a released waiter has ended
 pub record Made : Type 0 where
   pub waiters : List ℕ
@@ -73,7 +73,7 @@ admission_of (Subscribe target pattern repeats) made = if has_subscription_place
 admission_of act made = admission.Admitted
 
 -- what an act makes or ends, once it is done
-abbrev pub change_of : Act Global → StandingChange
+abbrev pub change_of : Act Global → MadeChange
 change_of (Wait condition mode timeout names) = change.MakesWaiter
 change_of (Subscribe target pattern repeats) = change.MakesSubscription
 change_of (Cancel id) = change.EndsWaiter id
@@ -84,15 +84,15 @@ change_of act = change.Other
 abbrev pub without : ℕ → List ℕ → List ℕ
 without id ids = filter (λ other. not (other == id)) ids
 
--- the standing after this reply to an act with this change
-abbrev pub after_reply : StandingChange → Reply Global → Made → Made
+-- what it made, after this reply to an act with this change
+abbrev pub after_reply : MadeChange → Reply Global → Made → Made
 after_reply change.MakesWaiter (reply.Waiter id) made = record made { waiters = made.waiters ++ id ∷ [] }
 after_reply change.MakesSubscription (reply.Subscription id) made = record made { subscriptions = made.subscriptions ++ id ∷ [] }
 after_reply (change.EndsWaiter id) reply.Done made = record made { waiters = without id made.waiters; released = without id made.released }
 after_reply (change.EndsSubscription id) reply.Done made = record made { subscriptions = without id made.subscriptions }
 after_reply a r made = made
 
--- the standing once the release of this waiter was told: it waits no more
+-- what it made, once the release of this waiter was told: it waits no more
 abbrev pub after_release : ℕ → Made → Made
 after_release id made = record made { waiters = without id made.waiters; released = made.released ++ id ∷ [] }
 
@@ -101,12 +101,12 @@ abbrev pub is_among : ℕ → List ℕ → Bool
 is_among id ids = list_any (λ other. other == id) ids
 
 -- there is a place for what an act with this change makes
-abbrev pub has_room_for : StandingChange → Made → Bool
+abbrev pub has_room_for : MadeChange → Made → Bool
 has_room_for change.MakesWaiter made = has_place made
 has_room_for change.MakesSubscription made = has_subscription_place made
 has_room_for c made = true
 
--- the act that ends what is ended next, and the standing then: the released waiters go first, then the others, then the subscriptions
+-- the act that ends what is ended next, and what is left then: the released waiters go first, then the others, then the subscriptions
 pub record Ended : Type 0 where
   pub act : Act Global
   pub made : Made

@@ -1,5 +1,5 @@
 use Rattle.server_rules.proofs.Shorter.{ended_fits}
-use Rattle.server_rules.proofs.standing.Standing.note_reply.Goals as goal
+use Rattle.server_rules.proofs.made_things.MadeThings.note_reply.Goals as goal
 
 pub invariant_of-self-in-Done : goal.invariant_of-self-in-Done
 invariant_of-self-in-Done c =

@@ -4,14 +4,15 @@ use std::sync::{Mutex, Wait};
 
 /// How a tree came to its end, as the driver notes it.
 #[derive(Drop)]
-pub struct Outcome {
+pub struct NotedEnd {
     end: Mutex<Result<(), ServeFault>>,
 }
 
-impl Outcome {
-    /// Nothing is noted yet. Where that stays so, a thread could not be started: `ServeFault::Thread`.
-    pub fn new() -> Outcome {
-        Outcome {
+impl NotedEnd {
+    /// Nothing is noted yet. Where that stays so, a thread could not be started:
+    /// `ServeFault::Thread`.
+    pub fn new() -> NotedEnd {
+        NotedEnd {
             end: Mutex::new(Err(ServeFault::Thread)),
         }
     }
