@@ -7,7 +7,7 @@ ghost use Rattle.tree_core.specs.Machine.{Machine};
 ghost use Rattle.tree_core.specs.NextDue.{next_due};
 ghost use Rattle.tree_core.specs.StandsFor.{StandsFor};
 ghost use mathlib.Core.List.{IsPrefix};
-ghost use Rattle.run_records.specs.Runs.{RunStep, end_of, inputs_of, actor_at, moment_at, outcome_at, reply_at};
+ghost use Rattle.run_records.specs.Runs.{RunStep, end_of, inputs_of, outcome_at, reply_at};
 ghost use Rattle.locked_services.specs.Telling.{IsStepOf};
 ghost use Rattle.run_records.specs.RunText.{IsWritten, StopsWriting};
 ghost use Rattle.locked_services.specs.Closing.{AreComplete, AreDone, AreSameDesks, AreServed, IsClosed, IsFault, IsSameRoom};
@@ -217,21 +217,6 @@ impl<C: Channels + Lanes, D: Board<C>> Room<C, D> {
             (Some(actor), Some(moment)) => Ok(Some((actor, moment))),
             _ => unreachable!(),
         }
-    }
-
-    /// Whose input step `number` took, counted from 1; None where there is no such step.
-    pub fn actor(&self, number: u64) -> Option<Actor>
-        ensures { result ≡ actor_at number self.now.running.steps }
-    {
-        self.running.actor(number)
-    }
-
-    /// The moment at which the input of step `number` was handed in, counted from 1; None where
-    /// there is no such step.
-    pub fn moment(&self, number: u64) -> Option<At>
-        ensures { result ≡ moment_at number self.now.running.steps }
-    {
-        self.running.moment(number)
     }
 
     /// Writes the run as a recorded script: the head line, if `head`, and then for each step the

@@ -9,7 +9,7 @@ ghost use Rattle.tree_core.specs.Machine.{Machine};
 ghost use Rattle.tree_core.specs.NextDue.{next_due};
 ghost use Rattle.tree_core.specs.StandsFor.{StandsFor};
 ghost use mathlib.Core.List.{IsPrefix};
-ghost use Rattle.run_records.specs.Runs.{end_of, inputs_of, actor_at, moment_at, outcome_at, reply_at};
+ghost use Rattle.run_records.specs.Runs.{end_of, inputs_of, outcome_at, reply_at};
 ghost use Rattle.run_records.specs.RunText.{IsWritten, StopsWriting};
 ghost use Rattle.locked_services.specs.Closing.{IsClosed, IsFault, IsRunFrom};
 ghost use Rattle.locked_services.specs.Shots.{RoomView, IsSoundHistory};
@@ -210,29 +210,6 @@ impl<C: Channels + Lanes, D: Board<C>, B: Backend> Office<C, D, B> {
         room.show(rt, known);
         let _steps = room.steps();
         room.step(number, effect)
-    }
-
-    /// Whose input step `number` took, counted from 1; None where there is no such step.
-    pub fn actor<W: Wait>(&self, rt: &W, known: &mut KnownHistory<C>, number: u64) -> Option<Actor>
-        ensures longer { IsPrefix known.old known.new }
-        ensures told { IsTold C.opening known.new (λ v. result ≡ actor_at number v.running.steps) }
-    {
-        let mut room = self.room.lock(rt);
-        room.show(rt, known);
-        let _steps = room.steps();
-        room.actor(number)
-    }
-
-    /// The moment at which the input of step `number` was handed in, counted from 1; None where
-    /// there is no such step.
-    pub fn moment<W: Wait>(&self, rt: &W, known: &mut KnownHistory<C>, number: u64) -> Option<At>
-        ensures longer { IsPrefix known.old known.new }
-        ensures told { IsTold C.opening known.new (λ v. result ≡ moment_at number v.running.steps) }
-    {
-        let mut room = self.room.lock(rt);
-        room.show(rt, known);
-        let _steps = room.steps();
-        room.moment(number)
     }
 
     /// How many steps the run has.

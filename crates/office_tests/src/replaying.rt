@@ -70,7 +70,7 @@ fn gives_same<C: Channels + Lanes, D: Board<C>, B: Backend, R: Wait>(
     numbers: &mut [u32],
     step: u64,
 ) -> Option<bool> {
-    let actor = office.actor(rt, known, step)?;
+    let (actor, _) = office.step(rt, known, step, effect).ok()??;
     let number = count_one(numbers, actor)?;
     if !make_step(alloc, tree, effect, actor, number) {
         return None;
