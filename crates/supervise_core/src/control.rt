@@ -1,46 +1,18 @@
 //! The control letters: what each does in each phase.
 ghost use Rattle.std.specs.Prelude.{◌≡◌, ◌+◌, ◌<◌, ◌≤◌, ◌^◌, ◌*◌, length};
 ghost use Rattle.supervise_core.specs.ControlLetters.{letter_move, up_move, down_move, signal_move, as_unwanted, control_move};
-ghost use Rattle.supervise_core.specs.MatchesMove.{MatchesMove, AppendsMove};
+ghost use Rattle.supervise_core.specs.MatchesMove.{AppendsMove};
 ghost use Rattle.control_letters.specs.ControlLetter.{signal_of};
 ghost use Rattle.supervise_core.specs.LetterBounds.{marks_left, runs_left};
 
 use super::chart_state::ChartState;
 use super::out::Out;
 use super::phase::Phase;
-use control_letters::{ControlLetter, Letters};
+use control_letters::ControlLetter;
 use s6_events::{At, Order};
 
 // The letters of a user.
 impl ChartState {
-    /// A user sent these letters; they are done in the order written, all at one moment. Once the
-    /// supervisor has ended no letter does anything. Page `s6-svc`; that they are done in the order
-    /// written is chosen here.
-    pub fn control(&mut self, letters: &Letters, now: At) -> Out
-        requires { self.old.generation + 1 < 2 ^ 64 }
-        ensures gives { MatchesMove (control_move letters.now.items now self.old) self.new result }
-        ensures sid { self.new.sid ≡ self.old.sid }
-    {
-        let mut out = Out::new();
-        self.take_letters(letters.as_slice(), now, &mut out);
-        out
-    }
-
-    /// A user sent these letters: they are done in the order written. The mark that they give, at
-    /// most one, and the orders, at most two for each letter, are added to what is in `out`.
-    pub fn control_onto(&mut self, letters: &Letters, now: At, out: &mut Out)
-        requires marks { length out.old.events.items < 4 }
-        requires room { length out.old.orders.items + 2 * length letters.now.items ≤ 126 }
-        requires next { self.old.generation + 1 < 2 ^ 64 }
-        ensures gives { AppendsMove
-            (control_move letters.now.items now self.old) self.new out.old out.new }
-        ensures sid { self.new.sid ≡ self.old.sid }
-        ensures few { length out.new.orders.items
-            ≤ length out.old.orders.items + 2 * length letters.now.items }
-    {
-        self.take_letters(letters.as_slice(), now, out);
-    }
-
     // Takes these letters, one after the other; the marks and orders that they give are added to
     // `out`.
     pub(crate) fn take_letters(&mut self, letters: &[ControlLetter], now: At, out: &mut Out)

@@ -6,6 +6,7 @@ mod activity;
 mod change;
 mod chart_state;
 mod control;
+mod embedding;
 mod image;
 mod moves;
 mod new_config;

@@ -1,9 +1,8 @@
 //! The reports: what each does in the phase that it belongs to. In any other phase, or of another
 //! run than the present one, it is stale: it is refused and changes nothing.
-ghost use Rattle.std.specs.Prelude.{◌≡◌, ◌+◌, ◌<◌, ◌≤◌, ◌^◌, ◌++◌, length};
-ghost use Rattle.supervise_core.specs.Reports.{started_move, start_failed_move, notify_move, death_move, finish_ended_move, finish_done_move, failed_spawn_move, is_awaiting, is_running, is_in_finish, says_ready};
-ghost use Rattle.finish_core.specs.ExitVerdict.{verdict_of};
-ghost use Rattle.supervise_core.specs.MatchesMove.{MatchesMove, AppendsMove};
+ghost use Rattle.std.specs.Prelude.{◌≡◌, ◌+◌, ◌<◌, ◌≤◌, ◌^◌, length};
+ghost use Rattle.supervise_core.specs.Reports.{started_move, start_failed_move, notify_move, death_move, finish_ended_move, failed_spawn_move, is_awaiting, is_running, is_in_finish, says_ready};
+ghost use Rattle.supervise_core.specs.MatchesMove.{AppendsMove};
 
 use super::chart_state::ChartState;
 use super::out::Out;
@@ -46,18 +45,6 @@ impl ChartState {
         self.notification_fd.is_some() && self.ready_since.is_none() && bytes.contains(&b'\n')
     }
 
-    /// `run` was spawned: mark `u`. Where it was told to go down meanwhile, the down signal
-    /// follows. Stale unless its start was under way. Page `s6-supervise`, "Events".
-    pub fn started(&mut self, generation: u64, pid: u32, now: At) -> Out
-        ensures gives { MatchesMove (started_move generation pid now self.old) self.new result }
-        ensures sid { self.new.sid ≡ self.old.sid }
-        ensures few { length result.orders.items ≤ 2 }
-    {
-        let mut out = Out::new();
-        self.started_onto(generation, pid, now, &mut out);
-        out
-    }
-
     /// `run` of this number (`generation`) was spawned: mark `u`. Where it was told to go down
     /// meanwhile (`down_pending`), the down signal follows. The report is stale, and changes
     /// nothing, unless the start of this run was under way. The mark and the orders, at most two,
@@ -84,22 +71,6 @@ impl ChartState {
             self.down_pending = false;
             self.send_down_signal(now, out);
         }
-    }
-
-    /// A spawn failed. That of `run`: the supervisor ends, if it was told to; else `run` is tried
-    /// again after 60000 ms, if it is wanted up. That of `finish`: `finish` counts as done, mark
-    /// `D` and what comes next. Stale unless the start of `run` was under way, or `finish` was
-    /// there. Page `s6-supervise`, "Detailed operation"; that a `finish` that can't be spawned
-    /// counts as none is chosen here.
-    pub fn start_failed(&mut self, generation: u64, now: At) -> Out
-        requires { self.old.generation + 1 < 2 ^ 64 }
-        ensures gives { MatchesMove (start_failed_move generation now self.old) self.new result }
-        ensures sid { self.new.sid ≡ self.old.sid }
-        ensures few { length result.orders.items ≤ 1 }
-    {
-        let mut out = Out::new();
-        self.start_failed_onto(generation, now, &mut out);
-        out
     }
 
     /// `run` or `finish` of this number (`generation`) could not be spawned. `run` is tried again
@@ -142,19 +113,6 @@ impl ChartState {
         }
     }
 
-    /// `run` wrote these bytes to its notification descriptor: mark `U` at the first newline of
-    /// this run, and else nothing. Stale unless it was up. Page `notifywhenup`.
-    pub fn notify(&mut self, generation: u64, bytes: &[u8], now: At) -> Out
-        ensures gives { MatchesMove
-            (notify_move generation bytes.now now self.old) self.new result }
-        ensures sid { self.new.sid ≡ self.old.sid }
-        ensures few { length result.orders.items ≤ 0 }
-    {
-        let mut out = Out::new();
-        self.notify_onto(generation, bytes, now, &mut out);
-        out
-    }
-
     /// `run` of this number (`generation`) wrote these bytes to its notification descriptor: mark
     /// `U` at its first newline, and else nothing. The report is stale, and changes nothing, unless
     /// this run was up. The mark is added to what is in `out`.
@@ -173,22 +131,6 @@ impl ChartState {
             self.ready_since = Some(now);
             out.events.push(Mark::Ready);
         }
-    }
-
-    /// `run` died: mark `d`, and `finish` is ordered where there is one. Else mark `D` and what
-    /// comes next: the supervisor ends, or the service rests, or it is started, at once after more
-    /// than 1000 ms of readiness, else 1000 ms after the death. Stale unless it was up. Pages
-    /// `s6-supervise`, "Detailed operation", and `servicedir`, "finish"; the length of the pause is
-    /// chosen here.
-    pub fn death(&mut self, generation: u64, exit: Exit, now: At) -> Out
-        requires { self.old.generation + 1 < 2 ^ 64 }
-        ensures gives { MatchesMove (death_move generation exit now self.old) self.new result }
-        ensures sid { self.new.sid ≡ self.old.sid }
-        ensures few { length result.orders.items ≤ 1 }
-    {
-        let mut out = Out::new();
-        self.death_onto(generation, exit, now, &mut out);
-        out
     }
 
     /// `run` of this number (`generation`) died: mark `d`. Then `finish` is ordered where there is
@@ -221,22 +163,6 @@ impl ChartState {
             out.events.push(Mark::FinishDone);
             self.settle(now, out);
         }
-    }
-
-    /// `finish` ended: mark `D` and what comes next, as after a death without `finish`. With the
-    /// exit code 125 the service has failed for good: mark `O` comes before the `D`, and it is no
-    /// longer wanted up. Stale unless `finish` was there. Pages `servicedir`, "finish", and
-    /// `s6-supervise`, "Events".
-    pub fn finish_ended(&mut self, generation: u64, exit: Exit, now: At) -> Out
-        requires { self.old.generation + 1 < 2 ^ 64 }
-        ensures gives { MatchesMove
-            (finish_ended_move generation exit now self.old) self.new result }
-        ensures sid { self.new.sid ≡ self.old.sid }
-        ensures few { length result.orders.items ≤ 1 }
-    {
-        let mut out = Out::new();
-        self.finish_ended_onto(generation, exit, now, &mut out);
-        out
     }
 
     /// `finish` of the run of this number (`generation`) ended: mark `D`, and what comes next

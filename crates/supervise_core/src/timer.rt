@@ -1,7 +1,7 @@
 //! The timer of a service: what it does in each phase.
-ghost use Rattle.std.specs.Prelude.{◌≡◌, ◌+◌, ◌<◌, ◌≤◌, ◌^◌, false, length};
+ghost use Rattle.std.specs.Prelude.{◌≡◌, ◌+◌, ◌<◌, ◌≤◌, ◌^◌, length};
 ghost use Rattle.supervise_core.specs.Timer.{fire_move, timer_rule, is_due};
-ghost use Rattle.supervise_core.specs.MatchesMove.{MatchesMove, AppendsMove};
+ghost use Rattle.supervise_core.specs.MatchesMove.{AppendsMove};
 
 use super::chart_state::ChartState;
 use super::out::Out;
@@ -15,21 +15,6 @@ impl ChartState {
         ensures { result ≡ is_due now self.now.timer }
     {
         self.timer.is_some_and(|due| due <= now.millis())
-    }
-
-    /// Its timer goes off, where it is due: a start, a SIGKILL for `run` or `finish`, or a new
-    /// supervisor, by the phase. Else nothing happens. Pages `s6-supervise` and `servicedir`,
-    /// "timeout-kill" and "timeout-finish".
-    pub fn fire(&mut self, now: At) -> Out
-        requires { self.old.generation + 1 < 2 ^ 64 }
-        ensures gives { MatchesMove (fire_move now self.old) self.new result }
-        ensures sid { self.new.sid ≡ self.old.sid }
-        ensures few { length result.orders.items ≤ 1 }
-        ensures fresh { result.stale ≡ false }
-    {
-        let mut out = Out::new();
-        self.fire_onto(now, &mut out);
-        out
     }
 
     /// Its timer goes off, where it is due; else nothing happens. The mark and the order that this
