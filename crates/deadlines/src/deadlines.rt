@@ -1,10 +1,10 @@
 //! The timers that are set, at most one for each service, and which of them are due. They are kept
 //! twice: in `timers` in the order of the serials of their services, and in `queue` in the order of
 //! their moments.
-ghost use Rattle.std.specs.Prelude.{◌≡◌, ◌+◌, ◌<◌, ◌≤◌, [], length, IsOk, IfOk, OnOk, OnErr, IfSome, IsSomeAnd, nat_lt, take, slice_get, true, false};
+ghost use Rattle.std.specs.Prelude.{◌≡◌, ◌+◌, ◌<◌, ◌≤◌, [], length, IsOk, IfOk, OnOk, IfSome, IsSomeAnd, nat_lt, take, slice_get, true, false};
 ghost use Rattle.std.specs.List.{list_all};
 ghost use Rattle.deadlines.specs.Queue.{HaveSameTimers, in_moment_order};
-ghost use Rattle.deadlines.specs.Timers.{with_timer, without_timer, with_timer_change, with_timer_changes, due_by, is_rising, is_timer_of, rises};
+ghost use Rattle.deadlines.specs.Timers.{with_timer, with_timer_change, with_timer_changes, due_by, is_rising, is_timer_of, rises};
 
 use crate::queue::{is_any_due, put_in, take_out};
 use crate::timer::{Timer, TimerChange};
@@ -17,12 +17,12 @@ use std::marker::Model;
 /// those that are due.
 #[derive(Drop)]
 pub struct Deadlines<A: Allocator> {
-    timers: Vec<Timer, A>,
-    queue: Vec<Timer, A>,
+    pub(crate) timers: Vec<Timer, A>,
+    pub(crate) queue: Vec<Timer, A>,
     // The list of the last step's changes, kept so that the next step can use its memory.
-    spare: Vec<TimerChange, A>,
+    pub(crate) spare: Vec<TimerChange, A>,
     // The services whose timers the last search found due, kept likewise.
-    found: Vec<Sid, A>,
+    pub(crate) found: Vec<Sid, A>,
 }
 
 impl<A: Allocator> Model for Deadlines<A> {
@@ -85,7 +85,7 @@ fn comes_last(timers: &[Timer], sid: Sid) -> bool
 
 // The first place of a timer whose serial is not below this one, or the end. Services that were
 // started together die and are started again in their order, so that both ends are looked at first.
-fn place_of(timers: &[Timer], sid: Sid) -> usize
+pub(crate) fn place_of(timers: &[Timer], sid: Sid) -> usize
     requires { rises timers.now ≡ true }
     ensures bound { result ≤ length timers.now }
     ensures before { list_all (λ t. nat_lt t.sid sid) (take result timers.now) ≡ true }
@@ -112,7 +112,7 @@ fn place_of(timers: &[Timer], sid: Sid) -> usize
 }
 
 // Whether the timer at this place is that of the service.
-fn is_at(timers: &[Timer], place: usize, sid: Sid) -> bool
+pub(crate) fn is_at(timers: &[Timer], place: usize, sid: Sid) -> bool
     ensures { result ≡ is_timer_of sid (slice_get timers.now place) }
 {
     timers.get(place).is_some_and(|timer| timer.sid == sid)
@@ -121,7 +121,7 @@ fn is_at(timers: &[Timer], place: usize, sid: Sid) -> bool
 // Adds the services whose timers are set to a moment at most `now`, in rising serial. `timers` is
 // in the order of serials; `queue` has the same timers in the order of moments, so that its first
 // one tells whether any is due.
-fn add_due<B: Allocator>(
+pub(crate) fn add_due<B: Allocator>(
     timers: &[Timer],
     queue: &[Timer],
     now: At,
@@ -160,25 +160,9 @@ impl<A: Allocator + Copy> Deadlines<A> {
         }
     }
 
-    /// Sets the timer of a service to a moment, in place of the one that it had. It always succeeds
-    /// where there is still room. `NoMemory` where memory is refused: nothing has changed then, and
-    /// a plan still has its room. Both lists of the timers, `timers` and `queue`, get room for one
-    /// more first.
-    pub fn set(&mut self, sid: Sid, at: At) -> Result<(), NoMemory>
-        ensures ok { OnOk result (self.new.timers ≡ with_timer sid at self.old.timers) }
-        ensures err { OnErr result (self.new.timers ≡ self.old.timers) }
-        ensures same_room { OnErr result (self.old.spare_capacity ≤ self.new.spare_capacity) }
-        ensures succeeds { 0 < self.old.spare_capacity → IsOk result }
-    {
-        self.timers.reserve(1)?;
-        self.queue.reserve(1)?;
-        self.put(sid, at);
-        Ok(())
-    }
-
     // Sets the timer of a service, for which there is room in both lists: `timers`, in the order of
     // serials, and `queue`, in the order of moments.
-    fn put(&mut self, sid: Sid, at: At)
+    pub(crate) fn put(&mut self, sid: Sid, at: At)
         requires { 0 < self.old.spare_capacity }
         ensures timers { self.new.timers ≡ with_timer sid at self.old.timers }
         ensures room { self.old.spare_capacity ≤ self.new.spare_capacity + 1 }
@@ -195,32 +179,6 @@ impl<A: Allocator + Copy> Deadlines<A> {
             put_in(&mut self.queue, &timer);
             self.timers.insert(place, timer).unwrap();
         }
-    }
-
-    /// Clears the timer of a service, where it was set: it is taken out of both lists, `timers` and
-    /// `queue`.
-    pub fn clear(&mut self, sid: Sid)
-        ensures timers { self.new.timers ≡ without_timer sid self.old.timers }
-        ensures room { self.old.spare_capacity ≤ self.new.spare_capacity }
-    {
-        let place = place_of(&self.timers, sid);
-        if is_at(&self.timers, place, sid) {
-            let timer = self.timers.remove(place);
-            take_out(&mut self.queue, &timer);
-        }
-    }
-
-    /// The services whose timers are set to a moment at most `now`, in rising serial. Where none is
-    /// due, only the timer with the least moment is looked at, and no memory is asked for.
-    /// `NoMemory` where memory is refused.
-    pub fn due<B: Allocator + Copy>(&self, alloc: B, now: At) -> Result<Vec<Sid, B>, NoMemory>
-        ensures due { IfOk result (λ sids. sids.items ≡ due_by now self.now.timers) }
-        ensures rising { IfOk result (λ sids. is_rising sids.items ≡ true) }
-        ensures quiet { due_by now self.now.timers ≡ [] → IsOk result }
-    {
-        let mut sids = Vec::new(alloc);
-        add_due(&self.timers, &self.queue, now, &mut sids)?;
-        Ok(sids)
     }
 
     /// Finds the services that `due` gives, and keeps them for `found`: their list uses the memory

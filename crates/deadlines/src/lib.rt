@@ -2,6 +2,7 @@
 #![tactic(auto)]
 
 mod deadlines;
+mod embedding;
 mod queue;
 mod timer;
 

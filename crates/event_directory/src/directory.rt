@@ -1,7 +1,7 @@
 //! One event directory: the subscriptions of a service's events, or of letters that are sent to it.
 //! Letters are prepared, which changes nothing that is shown, and then heard.
-ghost use Rattle.std.specs.Prelude.{◌≡◌, ◌<◌, ◌++◌, ◌∷◌, [], List, IfOk, OnOk, OnErr, IfErr, All, map, ◌+◌, take, drop, IfSome, IfNone, option_map, length, ◌==◌, ◌≤◌, vec_len, vec_capacity};
-ghost use Rattle.event_directory.specs.Sending.{TextSubscription, HaveHeard, after_letter, hits_from, after_letters, hits_from_letters, Sends, Prepares, left_without, new_kept_subscription, new_text_subscription, view_of, kept_without};
+ghost use Rattle.std.specs.Prelude.{◌≡◌, ◌<◌, ◌++◌, ◌∷◌, [], List, IfOk, OnOk, map, ◌+◌, take, drop, IfSome, IfNone, option_map, length, ◌==◌, ◌≤◌, vec_len, vec_capacity};
+ghost use Rattle.event_directory.specs.Sending.{TextSubscription, HaveHeard, after_letter, hits_from, after_letters, hits_from_letters, Prepares, left_without, new_kept_subscription, view_of, kept_without};
 ghost use Rattle.event_directory.specs.Views.{list_of_subscription};
 ghost use Rattle.event_directory.specs.Stored.{greatest_offset, last_letters, standing_of_stored, stored_of, stored_without};
 
@@ -9,7 +9,6 @@ use crate::finds::Finds;
 use crate::hit::Hit;
 use crate::image::{SubscriptionImage, images_of};
 use crate::pattern::Pattern;
-use crate::plan::LettersPlan;
 use crate::sub_view::SubView;
 use crate::subscription::Subscription;
 use crate::subscriptions::{
@@ -34,15 +33,15 @@ use std::marker::Model;
 /// are.
 #[derive(Drop)]
 pub struct Directory<F: Finds, A: Allocator> {
-    subscriptions: Vec<Subscription<F, A>, A>,
+    pub(crate) subscriptions: Vec<Subscription<F, A>, A>,
     // The letters that are heard, and after them those that are being prepared.
-    text: Vec<Letter, A>,
+    pub(crate) text: Vec<Letter, A>,
     // How many of these letters are heard.
-    heard: usize,
+    pub(crate) heard: usize,
     // Whether there is a plan that was not committed yet.
-    is_planned: bool,
+    pub(crate) is_planned: bool,
     // The letters of that plan.
-    planned: Vec<Letter, A>,
+    pub(crate) planned: Vec<Letter, A>,
 }
 
 impl<F: Finds, A: Allocator> Model for Directory<F, A> {
@@ -75,46 +74,6 @@ impl<F: Finds, A: Allocator + Copy> Directory<F, A> {
             is_planned: false,
             planned: Vec::new(alloc),
         }
-    }
-
-    /// Subscribes from now on, with a serial greater than those before: for one match, or again
-    /// after each match. Page `s6-ftrig-listen1`. It does not hear the letters of a plan that is
-    /// not committed yet. Where memory is refused, the pattern comes back and nothing has changed.
-    pub fn subscribe(&mut self, id: SubId, pattern: F, repeats: bool) -> Result<(), F>
-        requires { All (λ s. s.id < id) self.old.standing }
-        ensures ok { OnOk result (self.new.standing
-            ≡ self.old.standing ++ new_kept_subscription id (F.source pattern) repeats ∷ []) }
-        ensures hears { OnOk result ((subscribed : List TextSubscription) →
-            HaveHeard F.test self.old.standing subscribed →
-            HaveHeard F.test self.new.standing
-            (subscribed ++ new_text_subscription id (F.source pattern) repeats ∷ [])) }
-        ensures planned { OnOk result (self.new.planned
-            ≡ self.old.planned ++ new_kept_subscription id (F.source pattern) repeats ∷ []) }
-        ensures err { IfErr result (λ back. (back ≡ pattern)
-            × (self.new.standing ≡ self.old.standing)) }
-        ensures still { OnErr result (self.new.planned ≡ self.old.planned) }
-    {
-        if self.reserve().is_err() {
-            return Err(pattern);
-        }
-        self.join(id, pattern, repeats);
-        Ok(())
-    }
-
-    /// Subscribes from now on, in the place that `prepare` made, but not to letters of a plan.
-    pub fn join(&mut self, id: SubId, pattern: F, repeats: bool)
-        requires room { 0 < self.old.room }
-        requires greater { All (λ s. s.id < id) self.old.standing }
-        ensures after { self.new.standing
-            ≡ self.old.standing ++ new_kept_subscription id (F.source pattern) repeats ∷ [] }
-        ensures hears { (subscribed : List TextSubscription) →
-            HaveHeard F.test self.old.standing subscribed →
-            HaveHeard F.test self.new.standing
-            (subscribed ++ new_text_subscription id (F.source pattern) repeats ∷ []) }
-        ensures planned { self.new.planned ≡
-            self.old.planned ++ new_kept_subscription id (F.source pattern) repeats ∷ [] }
-    {
-        self.take_in(id, pattern, repeats);
     }
 
     // Subscribes from now on, in a place that was made. For the proof of `join`.
@@ -213,43 +172,6 @@ impl<F: Finds, A: Allocator + Copy> Directory<F, A> {
         })
     }
 
-    /// Sends one letter: each live subscription hears it. Returns the hits, in rising serial. An
-    /// earlier plan is forgotten. Page `s6-ftrig-notify`. NoMemory where memory is refused: nothing
-    /// has changed then, and an earlier plan is still there.
-    pub fn send(&mut self, letter: Letter) -> Result<Vec<(SubId, Hit), A>, NoMemory>
-        ensures hits { IfOk result (λ hits. hits.items
-            ≡ hits_from F.test letter self.old.standing) }
-        ensures after { OnOk result
-            (self.new.standing ≡ after_letter F.test letter self.old.standing) }
-        ensures defined { IfOk result
-            (λ hits. (subscribed : List TextSubscription) →
-            HaveHeard F.test self.old.standing subscribed →
-            Sends F.test self.new.standing letter subscribed hits.items) }
-        ensures idle { OnOk result (self.new.planned ≡ self.new.standing) }
-        ensures err { OnErr result
-            ((self.new.standing ≡ self.old.standing) × (self.new.planned ≡ self.old.planned)) }
-    {
-        // The `?` is for the proof, which looks at each outcome (done, or refused) by itself.
-        let hits = self.hear(letter)?;
-        Ok(hits)
-    }
-
-    // Prepares one letter and hears it. For the proof of `send`.
-    fn hear(&mut self, letter: Letter) -> Result<Vec<(SubId, Hit), A>, NoMemory>
-        ensures hits { IfOk result (λ hits. hits.items
-            ≡ hits_from F.test letter self.old.standing) }
-        ensures after { OnOk result
-            (self.new.standing ≡ after_letter F.test letter self.old.standing) }
-        ensures idle { OnOk result (self.new.planned ≡ self.new.standing) }
-        ensures err { OnErr result
-            ((self.new.standing ≡ self.old.standing) × (self.new.planned ≡ self.old.planned)) }
-    {
-        self.begin();
-        let hits = self.prepare_more(letter)?;
-        self.hear_prepared();
-        Ok(hits)
-    }
-
     // Begins to prepare: no letter is prepared yet. The text keeps only the letters that are heard.
     pub(crate) fn begin(&mut self)
         ensures prepared { self.new.prepared ≡ self.old.standing }
@@ -281,86 +203,6 @@ impl<F: Finds, A: Allocator + Copy> Directory<F, A> {
         Ok(hits)
     }
 
-    /// Plans the letters of one step, and makes a place for one more subscription. Nothing is heard
-    /// yet, and an earlier plan is forgotten. NoMemory where memory is refused: nothing has changed
-    /// then, and an earlier plan is still there.
-    pub fn prepare(&mut self, letters: &[Letter]) -> Result<LettersPlan<A>, NoMemory>
-        ensures hits { IfOk result (λ plan. plan
-            ≡ hits_from_letters F.test letters.now self.old.standing) }
-        ensures planned { OnOk result
-            (self.new.planned ≡ after_letters F.test letters.now self.old.standing) }
-        ensures defined { IfOk result
-            (λ plan. (subscribed : List TextSubscription) →
-            HaveHeard F.test self.old.standing subscribed →
-            Prepares F.test self.new.planned letters.now subscribed plan) }
-        ensures room { OnOk result (0 < self.new.room) }
-        ensures same { self.new.standing ≡ self.old.standing }
-        ensures still { OnErr result (self.new.planned ≡ self.old.planned) }
-    {
-        // The `?` is for the proof, which looks at each outcome (done, or refused) by itself.
-        let plan = self.prepare_stored(letters)?;
-        Ok(plan)
-    }
-
-    // Prepares these letters, which become the plan. For the proof of `prepare`.
-    fn prepare_stored(&mut self, letters: &[Letter]) -> Result<LettersPlan<A>, NoMemory>
-        ensures hits { IfOk result (λ plan. plan
-            ≡ hits_from_letters F.test letters.now self.old.standing) }
-        ensures planned { OnOk result
-            (self.new.planned ≡ after_letters F.test letters.now self.old.standing) }
-        ensures room { OnOk result (0 < self.new.room) }
-        ensures same { self.new.standing ≡ self.old.standing }
-        ensures still { OnErr result (self.new.planned ≡ self.old.planned) }
-    {
-        self.reserve()?;
-        self.begin();
-        let hits = prepare_letters(self, letters)?;
-        self.stand_by()?;
-        Ok(LettersPlan { hits })
-    }
-
-    // What is prepared becomes the plan, with a copy of its letters. These leave the text, whose
-    // memory keeps the room for them.
-    fn stand_by(&mut self) -> Result<(), NoMemory>
-        ensures planned { OnOk result (self.new.planned ≡ self.old.prepared) }
-        ensures still { OnErr result (self.new.planned ≡ self.old.planned) }
-        ensures same { self.new.standing ≡ self.old.standing }
-        ensures room { self.new.room ≡ self.old.room }
-    {
-        let alloc = *self.subscriptions.allocator();
-        self.planned = copy_after(alloc, &self.text, self.heard)?;
-        plan_all(&mut self.subscriptions);
-        self.text.truncate(self.heard);
-        self.is_planned = true;
-        Ok(())
-    }
-
-    /// Hears the letters of the plan, if there is one, and returns its hits. Then there is none.
-    pub fn commit(&mut self, plan: LettersPlan<A>) -> Vec<Vec<(SubId, Hit), A>, A>
-        ensures after { self.new.standing ≡ self.old.planned }
-        ensures idle { self.new.planned ≡ self.new.standing }
-        ensures hits { map (λ v. v.items) result.items ≡ plan }
-        ensures room { self.new.room ≡ self.old.room }
-    {
-        self.hear_planned();
-        plan.hits
-    }
-
-    // Hears the letters of the plan, if there is one: they go behind those that are heard.
-    fn hear_planned(&mut self)
-        ensures after { self.new.standing ≡ self.old.planned }
-        ensures idle { self.new.planned ≡ self.new.standing }
-        ensures room { self.new.room ≡ self.old.room }
-    {
-        if !self.is_planned {
-            return;
-        }
-        hear_planned_all(&mut self.subscriptions);
-        put_after(&mut self.text, self.heard, &self.planned);
-        self.is_planned = false;
-        self.heard = forget(&mut self.text, &self.subscriptions);
-    }
-
     // Hears what is prepared, and drops letters that no subscription needs. Then there is no plan.
     pub(crate) fn hear_prepared(&mut self)
         ensures after { self.new.standing ≡ self.old.prepared }
@@ -383,7 +225,7 @@ impl<A: Allocator + Copy> Directory<Pattern, A> {
 }
 
 // Prepares several letters, and returns the hits that each of them will give.
-fn prepare_letters<F: Finds, A: Allocator + Copy>(
+pub(crate) fn prepare_letters<F: Finds, A: Allocator + Copy>(
     directory: &mut Directory<F, A>,
     letters: &[Letter],
 ) -> Result<Vec<Vec<(SubId, Hit), A>, A>, NoMemory>
@@ -404,7 +246,7 @@ fn prepare_letters<F: Finds, A: Allocator + Copy>(
 }
 
 // Drops the first letters, which no live subscription needs, and returns how many are left.
-fn forget<F: Finds, A: Allocator + Copy>(
+pub(crate) fn forget<F: Finds, A: Allocator + Copy>(
     text: &mut Vec<Letter, A>,
     subscriptions: &[Subscription<F, A>],
 ) -> usize
@@ -421,7 +263,7 @@ fn forget<F: Finds, A: Allocator + Copy>(
 }
 
 // A copy of the letters of a text after the first `heard` ones.
-fn copy_after<A: Allocator + Copy>(
+pub(crate) fn copy_after<A: Allocator + Copy>(
     alloc: A,
     text: &[Letter],
     heard: usize,
@@ -435,7 +277,11 @@ fn copy_after<A: Allocator + Copy>(
 }
 
 // Puts these letters into a text after the first `heard` ones, in place of others; they fit.
-fn put_after<A: Allocator + Copy>(text: &mut Vec<Letter, A>, heard: usize, letters: &[Letter])
+pub(crate) fn put_after<A: Allocator + Copy>(
+    text: &mut Vec<Letter, A>,
+    heard: usize,
+    letters: &[Letter],
+)
     requires there { heard ≤ vec_len text.old }
     requires room { heard + length letters.now ≤ vec_capacity text.old }
     ensures { text.new.items ≡ take heard text.old.items ++ letters.now }

@@ -6,6 +6,7 @@ mod directories;
 mod directory;
 mod directory_change;
 mod directory_plan;
+mod embedding;
 mod finds;
 mod hit;
 mod image;

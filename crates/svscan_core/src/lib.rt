@@ -3,6 +3,7 @@
 #![tactic(auto)]
 
 mod commit;
+mod embedding;
 mod entry;
 mod event;
 mod image;

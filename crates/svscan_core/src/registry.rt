@@ -1,31 +1,27 @@
 //! The table of services (the registry): a step is prepared, which changes nothing that is shown,
 //! then committed, which takes no memory.
-ghost use Rattle.std.specs.Prelude.{◌≡◌, ◌==◌, ◌+◌, ◌<◌, ◌≤◌, ◌^◌, ◌++◌, [], List, map, find, length, slice_get, bytes_eq, is_some, option_map, IfSome, IfNone, IfOk, IsOk, OnOk, OnErr, false};
-ghost use Rattle.std.specs.List.{list_any};
+ghost use Rattle.std.specs.Prelude.{◌≡◌, ◌==◌, ◌+◌, ◌<◌, ◌≤◌, ◌^◌, ◌++◌, [], List, map, find, length, slice_get, bytes_eq, option_map, IfSome, IfOk, IsOk, OnOk};
 ghost use Rattle.s6_events.specs.Clock.{clock_of};
 ghost use Rattle.s6_events.specs.declared.moment.Moment.{Moment};
 ghost use Rattle.supervise_core.specs.Chart.{fire_move};
 ghost use Rattle.supervise_core.specs.Service.{AgreesAs};
 ghost use Rattle.svscan_core.specs.Asked.{work_asked, IsOrderly};
-ghost use Rattle.svscan_core.specs.Changed.{GivesChange, TakesChange};
-ghost use Rattle.svscan_core.specs.Limits.{order_limit, service_limit};
-ghost use Rattle.svscan_core.specs.Listing.{names_in};
+ghost use Rattle.svscan_core.specs.Limits.{order_limit};
 ghost use Rattle.svscan_core.specs.Moves.{moment_of, services_after, events_after};
-ghost use Rattle.svscan_core.specs.Names.{repeats_name};
 ghost use Rattle.svscan_core.specs.Registry.{registry_prepared, table_of, idle_of, IsPlanOf};
 ghost use Rattle.svscan_core.specs.SoFar.{HaveGenerations};
 ghost use Rattle.svscan_core.specs.Sound.{AllAgree, IsSound};
 ghost use Rattle.svscan_core.specs.Table.{new_table, charts_of};
 ghost use Rattle.svscan_core.specs.Work.{AreDue};
-ghost use Rattle.svscan_core.specs.Work.Work.{apply_listing, command, do_nothing};
-ghost use Rattle.svscan_core.specs.Worked.{IsStepOf, IsWorkOf, WorkIsMade};
+ghost use Rattle.svscan_core.specs.Work.Work.{do_nothing};
+ghost use Rattle.svscan_core.specs.Worked.{IsStepOf};
 
 use super::commit::commit_changes;
-use super::entry::{Entry, Listed, ScanOrder};
+use super::entry::Listed;
 use super::event::Event;
 use super::image::{RegistryImage, images_of};
 use super::pending::Pending;
-use super::registry_plan::{RegistryAnswer, RegistryPlan};
+use super::registry_plan::RegistryPlan;
 use super::slots::Slots;
 use super::table::{self, find_sid, nth_sid};
 use super::work::ServiceWork;
@@ -33,7 +29,7 @@ use deadlines::TimerChange;
 use s6_events::{At, Name, NoMemory, Order, Sid};
 use std::alloc::Allocator;
 use std::marker::Model;
-use supervise_core::{Change, Out, Service, ServiceState};
+use supervise_core::{Out, Service, ServiceState};
 
 /// The services of a scan directory, at most `SERVICE_LIMIT`, in rising serial. A step is worked
 /// out first (`prepare`), which changes nothing that is shown, and then made (`commit`), which
@@ -42,17 +38,17 @@ use supervise_core::{Change, Out, Service, ServiceState};
 /// `s6-svscan`.
 #[derive(Drop)]
 pub struct Registry<A: Allocator> {
-    slots: Slots<A>,
+    pub(crate) slots: Slots<A>,
     // The serial of the next new service.
-    next_sid: u64,
+    pub(crate) next_sid: u64,
     // The step that was worked out last.
-    pending: Pending<A>,
+    pub(crate) pending: Pending<A>,
     // Counts the steps that were worked out, modulo 2^64. The plan of the last one has this as its
     // number.
-    number: u64,
+    pub(crate) number: u64,
     // The marks and orders of one service's change, while a step is worked out. It is kept here
     // since it is large.
-    out: Out,
+    pub(crate) out: Out,
 }
 
 impl<A: Allocator> Model for Registry<A> {
@@ -90,14 +86,6 @@ impl<A: Allocator + Copy> Registry<A> {
         self.slots.len()
     }
 
-    /// The serial of the next service that is added. A caller can test by it what `prepare` and
-    /// `scan` require of that serial.
-    pub fn next_sid(&self) -> Sid
-        ensures { result ≡ self.now.shown.next_sid }
-    {
-        Sid(self.next_sid)
-    }
-
     /// The allocator that it was made with.
     pub fn allocator(&self) -> A {
         self.slots.allocator()
@@ -109,14 +97,6 @@ impl<A: Allocator + Copy> Registry<A> {
             (find (λ c. bytes_eq name c.name) (charts_of self.now.shown.services)) }
     {
         find_sid(&self.slots, &name)
-    }
-
-    /// The serial of the service at this place, in rising serial from 0.
-    pub fn nth(&self, place: usize) -> Option<Sid>
-        ensures { result ≡ option_map (λ c. c.sid)
-            (slice_get (charts_of self.now.shown.services) place) }
-    {
-        nth_sid(&self.slots, place)
     }
 
     /// The service of this serial.
@@ -169,22 +149,6 @@ impl<A: Allocator + Copy> Registry<A> {
             (charts_of self.now.shown.services)))) }
     {
         table::after_timers(&self.slots, &name, now)
-    }
-
-    /// The service of this serial takes a change at once, and no other one does. None where no
-    /// service has the serial: nothing changes then.
-    pub fn change(&mut self, sid: Sid, change: &Change, now: At) -> Option<Out>
-        requires { HaveGenerations 1 (charts_of self.old.shown.services) }
-        ensures takes { TakesChange sid change.now now self.old.shown.services
-            self.new.shown.services }
-        ensures next_sid { self.new.shown.next_sid ≡ self.old.shown.next_sid }
-        ensures known { is_some result
-            ≡ list_any (λ c. c.sid == sid) (charts_of self.old.shown.services) }
-        ensures unknown { IfNone result (self.new.shown ≡ self.old.shown) }
-        ensures gives { IfSome result (GivesChange sid change.now now
-            self.old.shown.services self.new.shown.services) }
-    {
-        table::change(&mut self.slots, sid, change, now)
     }
 
     /// Works out a step: each service whose timer is due takes its rule, and then the work is done.
@@ -268,21 +232,6 @@ impl<A: Allocator + Copy> Registry<A> {
         self.pending.timers.as_slice()
     }
 
-    // What this step gives, copied. `NoMemory` where memory for that is refused.
-    fn answer(&self, alloc: A) -> Result<RegistryAnswer<A>, NoMemory>
-        ensures events { IfOk result (λ answer. answer.events.items ≡ self.now.planned.events) }
-        ensures orders { IfOk result (λ answer. answer.orders.items ≡ self.now.planned.orders) }
-        ensures dropped { IfOk result (λ answer. answer.dropped.items ≡ self.now.planned.dropped) }
-        ensures listed { IfOk result (λ answer. answer.listed.items ≡ self.now.planned.listed) }
-    {
-        Ok(RegistryAnswer {
-            events: self.events().to_vec(alloc)?,
-            orders: self.orders().to_vec(alloc)?,
-            dropped: self.dropped().to_vec(alloc)?,
-            listed: self.listed().to_vec(alloc)?,
-        })
-    }
-
     /// Makes the step that was worked out last, whose plan this is; nothing that is shown has
     /// changed since. It takes no memory.
     pub fn commit(&mut self, plan: RegistryPlan)
@@ -300,73 +249,5 @@ impl<A: Allocator + Copy> Registry<A> {
             &mut scan.added,
         );
         self.next_sid = scan.next_sid;
-    }
-
-    // Works out a step that has this work alone: no timer goes off, and nothing that is shown
-    // changes yet.
-    fn prepare_alone(&mut self, work: &ServiceWork, now: At) -> Result<RegistryPlan, NoMemory>
-        requires listing { IsOrderly self.old.shown.next_sid (work_asked work.now) }
-        requires generations { HaveGenerations 1 (charts_of self.old.shown.services) }
-        ensures shown { self.new.shown ≡ self.old.shown }
-        ensures fits { IfOk result (λ plan. IsPlanOf self.new plan) }
-        ensures prepared { OnOk result (IsWorkOf (work_asked work.now) now self.old.shown
-            (registry_prepared self.new.shown.services self.new.planned)) }
-    {
-        // Where the marks and orders of one service's change lie while the step is worked out.
-        let out = &mut self.out;
-        self.pending
-            .work_alone(&self.slots, self.next_sid, work, now, out)?;
-        // Room for the services that the step adds, so that `commit` takes no memory.
-        self.slots.reserve(self.pending.scan.added.len())?;
-        // The plan that is answered only names this step, by a number; the step itself stays in the
-        // registry.
-        self.number = self.number.wrapping_add(1);
-        Ok(RegistryPlan::of(self.number))
-    }
-
-    // Does the work at once: it is worked out (`prepare_alone`), what it gives is copied, and it is
-    // committed.
-    fn make(&mut self, work: &ServiceWork, now: At) -> Result<RegistryAnswer<A>, NoMemory>
-        requires listing { IsOrderly self.old.shown.next_sid (work_asked work.now) }
-        requires generations { HaveGenerations 1 (charts_of self.old.shown.services) }
-        ensures made { IfOk result
-            (WorkIsMade (work_asked work.now) now self.old.shown self.new.shown) }
-        ensures unchanged { OnErr result (self.new.shown ≡ self.old.shown) }
-    {
-        let plan = self.prepare_alone(work, now)?;
-        let answer = self.answer(self.slots.allocator())?;
-        self.commit(plan);
-        Ok(answer)
-    }
-
-    /// Takes a listing of the scan directory, at once. Each service whose name is listed becomes
-    /// active and takes the configuration that was read; each other one becomes inactive. An
-    /// inactive one whose supervisor has ended is dropped. Each name that has no service gets one,
-    /// in the order of the names' bytes, unless its directory couldn't be read or there are
-    /// `SERVICE_LIMIT` services. The listing has no name twice. `NoMemory` where memory is refused:
-    /// nothing that is shown changes then. Page `s6-svscan`.
-    pub fn scan(&mut self, listing: &[Entry], now: At) -> Result<RegistryAnswer<A>, NoMemory>
-        requires listing { repeats_name (names_in listing.now) ≡ false }
-        requires generations { HaveGenerations 1 (charts_of self.old.shown.services) }
-        requires next { self.old.shown.next_sid + (service_limit + 1) < 2 ^ 64 }
-        ensures made { IfOk result
-            (WorkIsMade (apply_listing listing.now) now self.old.shown self.new.shown) }
-        ensures unchanged { OnErr result (self.new.shown ≡ self.old.shown) }
-    {
-        let work = ServiceWork::Listing(listing);
-        self.make(&work, now)
-    }
-
-    /// Takes a command to all services, at once: nuke gives each inactive service the letters `x`
-    /// and `d`; terminate makes each service inactive and gives it both. `NoMemory` where memory is
-    /// refused: nothing that is shown changes then. Page `s6-svscanctl`; which letters they get is
-    /// chosen here.
-    pub fn control(&mut self, order: ScanOrder, now: At) -> Result<RegistryAnswer<A>, NoMemory>
-        requires generations { HaveGenerations 1 (charts_of self.old.shown.services) }
-        ensures made { IfOk result
-            (WorkIsMade (command order) now self.old.shown self.new.shown) }
-        ensures unchanged { OnErr result (self.new.shown ≡ self.old.shown) }
-    {
-        self.make(&ServiceWork::Command(order), now)
     }
 }

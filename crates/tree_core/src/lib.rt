@@ -5,6 +5,7 @@ mod choice;
 mod clock;
 mod copied;
 mod effect;
+mod embedding;
 mod image;
 mod input;
 pub mod laws;

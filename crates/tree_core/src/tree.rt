@@ -1,13 +1,10 @@
 //! The tree: one input is one step, which `step.rt` works out and which is then made here. Where
 //! memory is refused, the whole input is handed back.
-ghost use Rattle.std.specs.Prelude.{◌≡◌, ◌≤◌, IfOk, OnErr, OnOk, IfErr, IsOk, length, true, option_map};
+ghost use Rattle.std.specs.Prelude.{◌≡◌, ◌≤◌, IfOk, OnOk, IfErr, IsOk, length, true, option_map};
 ghost use Rattle.tree_core.specs.Acts.{offer_of};
 ghost use Rattle.tree_core.specs.Effect.{outcome_of};
 ghost use Rattle.tree_core.specs.Ended.{has_ended};
-ghost use Rattle.event_directory.specs.Directories.{list_named};
-ghost use Rattle.event_directory.specs.Pattern.{finds};
-ghost use Rattle.wait_conditions.specs.Watch.{state_named};
-ghost use Rattle.tree_core.specs.Machine.{new_machine, directories_of, watch_of, Machine};
+ghost use Rattle.tree_core.specs.Machine.{new_machine, Machine};
 ghost use Rattle.tree_core.specs.NextDue.{next_due};
 ghost use Rattle.tree_core.specs.Replies.{is_subscribed};
 ghost use Rattle.tree_core.specs.Plan.{IsQuiet};
@@ -20,36 +17,34 @@ ghost use Rattle.tree_core.specs.Step.{step_limit};
 use super::effect::Effect;
 use super::image::Image;
 use super::input::{Act, Input};
-use super::limits::{SERVICE_LIMIT, is_spent};
+use super::limits::SERVICE_LIMIT;
 use super::next_due::{are_gone, next_timer};
-use super::reply::{Refusal, Reply};
 use super::rows::{fill_rows, row_of, rows_of};
-use super::step::plan_step;
 use arrayvec::ArrayVec;
 use deadlines::Deadlines;
-use event_directory::{Directories, DirectoryAnswer, Pattern, SubView};
-use s6_events::{At, History, Moment, Name, NoMemory, SubId, WaitId};
+use event_directory::{Directories, DirectoryAnswer, Pattern};
+use s6_events::{At, History, Moment, Name, NoMemory};
 use std::alloc::Allocator;
 use std::marker::Model;
 use supervise_core::Row;
 use svscan_core::Registry;
-use wait_conditions::{WaitState, Waits, earlier_of};
+use wait_conditions::{Waits, earlier_of};
 
 /// All services, waiters and event directories, with their clock and their history, of which the
 /// moments are forgotten that no waiter needs any more. A tree keeps the allocator that it was made
 /// with.
 #[derive(Drop)]
 pub struct Tree<A: Allocator> {
-    clock: At,
+    pub(crate) clock: At,
     // How many inputs it has taken, at most 2^48.
-    steps: u64,
+    pub(crate) steps: u64,
     // Whether a terminate was done.
-    closing: bool,
-    registry: Registry<A>,
-    deadlines: Deadlines<A>,
-    history: History<A>,
-    waits: Waits<A>,
-    directories: Directories<Pattern, A>,
+    pub(crate) closing: bool,
+    pub(crate) registry: Registry<A>,
+    pub(crate) deadlines: Deadlines<A>,
+    pub(crate) history: History<A>,
+    pub(crate) waits: Waits<A>,
+    pub(crate) directories: Directories<Pattern, A>,
 }
 
 impl<A: Allocator> Model for Tree<A> {
@@ -79,59 +74,6 @@ impl<A: Allocator + Copy> Tree<A> {
             waits: Waits::new(alloc),
             directories: Directories::new(alloc),
         }
-    }
-
-    /// Takes one input as `apply_into` does, but works on the caller's, so that it isn't moved.
-    /// After Ok its contents are unspecified. At `NoMemory` the input is as it was, and only the
-    /// effect has changed. A tree that has taken 2^48 steps is spent, and refuses every input. Else
-    /// the step is planned, and then each part commits its share of the plan; last, the history
-    /// forgets the moments that no waiter needs.
-    pub fn apply_in_place(
-        &mut self,
-        input: &mut Input<A>,
-        effect: &mut Effect<A>,
-    ) -> Result<(), NoMemory>
-        ensures step { OnOk result ((m : Machine) → StandsFor self.old m →
-            (outcome_of effect.new ≡ outcome m input.old)
-            × StandsFor self.new (after m input.old)) }
-        ensures unchanged { OnErr result ((input.new ≡ input.old) × (self.new ≡ self.old)) }
-        ensures spent { self.old.steps ≡ step_limit → IsOk result }
-        ensures quiet { IsQuiet input.old self.old.clock (charts_of self.old.services)
-            → IsOk result }
-    {
-        if is_spent(self.steps) {
-            effect.clear();
-            effect.reply = Reply::Refused(Refusal::Spent);
-            return Ok(());
-        }
-        let planned = plan_step(
-            &mut self.registry,
-            &mut self.deadlines,
-            &mut self.history,
-            &mut self.waits,
-            &mut self.directories,
-            self.clock,
-            self.closing,
-            input,
-            effect,
-        );
-        let plan = match planned {
-            Ok(plan) => plan,
-            Err(refused) => return Err(refused),
-        };
-        // From here on nothing can be refused, so that the pattern of a new subscription (`offer`)
-        // may leave the input.
-        let offer = take_offer(&mut input.act, &plan.letters.answer);
-        self.clock = plan.now;
-        self.steps += 1;
-        self.closing = plan.closing;
-        self.registry.commit(plan.services);
-        self.deadlines.commit(plan.timers);
-        self.history.commit(plan.history);
-        self.waits.commit(plan.waiters);
-        self.directories.commit(plan.letters, offer);
-        self.history.forget(self.waits.needed_from());
-        Ok(())
     }
 
     /// Takes one input, whole: the clock first, then the due timers, then the act; and fills the
@@ -205,23 +147,6 @@ impl<A: Allocator + Copy> Tree<A> {
         fill_rows(&self.registry, self.clock, rows)
     }
 
-    /// The state of the waiter of this serial; None where there is none. Page `s6-svwait`.
-    pub fn result(&self, id: WaitId) -> Option<WaitState>
-        ensures { (m : Machine) → StandsFor self.now m → result ≡ state_named (watch_of m) id }
-    {
-        self.waits.result(id)
-    }
-
-    /// What the subscription of this serial has heard, or None where there is none. Page
-    /// `s6-ftrig-listen1`.
-    pub fn list(&self, id: SubId) -> Option<SubView<'_>>
-        ensures { (m : Machine) → StandsFor self.now m
-            → option_map (λ v. (v.letters.now, v.state)) result
-            ≡ list_named finds id (directories_of m) }
-    {
-        self.directories.list(id)
-    }
-
     /// The next moment, in milliseconds, to which the timer of a service is set, or at which a
     /// waiter that waits still has its deadline; None where there is none. Until then nothing
     /// happens by itself.
@@ -286,7 +211,10 @@ fn kept_of<A: Allocator + Copy>(history: &History<A>, forgotten: u64) -> &[Momen
 
 // Takes the pattern that the act offers out of it, and whether it is to repeat, if the event
 // directories answered with a new subscription. Else the act, which is large, is not moved.
-fn take_offer<A: Allocator>(act: &mut Act<A>, told: &DirectoryAnswer) -> Option<(Pattern, bool)>
+pub(crate) fn take_offer<A: Allocator>(
+    act: &mut Act<A>,
+    told: &DirectoryAnswer,
+) -> Option<(Pattern, bool)>
     ensures { is_subscribed told.now ≡ true
         → option_map (λ o. (o.0, o.1)) result ≡ offer_of act.old }
 {

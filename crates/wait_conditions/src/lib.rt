@@ -7,6 +7,7 @@ mod condition_fails;
 mod condition_holds;
 mod counts;
 mod deadline;
+mod embedding;
 mod image;
 pub mod laws;
 mod next_deadline;
