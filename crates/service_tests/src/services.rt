@@ -296,7 +296,7 @@ fn add_letter(rt: &impl Abort, chart: ChartState, letter: ControlLetter, out: &m
             && out.orders.len() < 9
             && letters.len() < 9
     );
-    chart.control_onto(&letters, at(rt, 6), out);
+    chart.change_onto(&Change::Control(letters), at(rt, 6), out);
 }
 
 // A start, a stale one and a letter are added to what the beginning of another service gave: an

@@ -1,5 +1,5 @@
 //! Calls for whoever embeds a tree: no program of this repository makes them.
-ghost use Rattle.std.specs.Prelude.{◌≡◌, OnErr, OnOk, IsOk, option_map};
+ghost use Rattle.std.specs.Prelude.{◌≡◌, IfOk, IfErr, IsOk, option_map};
 ghost use Rattle.tree_core.specs.Effect.{outcome_of};
 ghost use Rattle.event_directory.specs.Directories.{list_named};
 ghost use Rattle.event_directory.specs.Pattern.{finds};
@@ -13,67 +13,27 @@ ghost use Rattle.tree_core.specs.Step.{step_limit};
 
 use super::effect::Effect;
 use super::input::Input;
-use super::limits::is_spent;
-use super::reply::{Refusal, Reply};
-use super::step::plan_step;
-use super::tree::{Tree, take_offer};
+use super::tree::Tree;
 use event_directory::SubView;
-use s6_events::{At, NoMemory, SubId, WaitId};
+use s6_events::{NoMemory, SubId, WaitId};
 use std::alloc::Allocator;
 use wait_conditions::WaitState;
 
 impl<A: Allocator + Copy> Tree<A> {
-    /// Takes one input as `apply_into` does, but works on the caller's, so that it isn't moved.
-    /// After Ok its contents are unspecified. At `NoMemory` the input is as it was, and only the
-    /// effect has changed. A tree that has taken 2^48 steps is spent, and refuses every input. Else
-    /// the step is planned, and then each part commits its share of the plan; last, the history
-    /// forgets the moments that no waiter needs.
-    pub fn apply_in_place(
-        &mut self,
-        input: &mut Input<A>,
-        effect: &mut Effect<A>,
-    ) -> Result<(), NoMemory>
-        ensures step { OnOk result ((m : Machine) → StandsFor self.old m →
-            (outcome_of effect.new ≡ outcome m input.old)
-            × StandsFor self.new (after m input.old)) }
-        ensures unchanged { OnErr result ((input.new ≡ input.old) × (self.new ≡ self.old)) }
+    /// Takes one input as `apply_into` does, and returns a new effect. A refused act is a step like
+    /// any other. Where memory is refused the same input comes back with `NoMemory`, and nothing
+    /// has changed at all. That never comes from a spent tree, nor for a tick, a status or a
+    /// permafailon at a moment that isn't later than the clock, while no timer is due.
+    pub fn apply(&mut self, input: Input<A>) -> Result<Effect<A>, (Input<A>, NoMemory)>
+        ensures step { IfOk result (λ effect. (m : Machine) → StandsFor self.old m →
+            (outcome_of effect ≡ outcome m input) × StandsFor self.new (after m input)) }
+        ensures unchanged { IfErr result (λ back. (back.0 ≡ input) × (self.new ≡ self.old)) }
         ensures spent { self.old.steps ≡ step_limit → IsOk result }
-        ensures quiet { IsQuiet input.old self.old.clock (charts_of self.old.services)
-            → IsOk result }
+        ensures quiet { IsQuiet input self.old.clock (charts_of self.old.services) → IsOk result }
     {
-        if is_spent(self.steps) {
-            effect.clear();
-            effect.reply = Reply::Refused(Refusal::Spent);
-            return Ok(());
-        }
-        let planned = plan_step(
-            &mut self.registry,
-            &mut self.deadlines,
-            &mut self.history,
-            &mut self.waits,
-            &mut self.directories,
-            self.clock,
-            self.closing,
-            input,
-            effect,
-        );
-        let plan = match planned {
-            Ok(plan) => plan,
-            Err(refused) => return Err(refused),
-        };
-        // From here on nothing can be refused, so that the pattern of a new subscription (`offer`)
-        // may leave the input.
-        let offer = take_offer(&mut input.act, &plan.letters.answer);
-        self.clock = plan.now;
-        self.steps += 1;
-        self.closing = plan.closing;
-        self.registry.commit(plan.services);
-        self.deadlines.commit(plan.timers);
-        self.history.commit(plan.history);
-        self.waits.commit(plan.waiters);
-        self.directories.commit(plan.letters, offer);
-        self.history.forget(self.waits.needed_from());
-        Ok(())
+        let mut effect = Effect::new(self.registry.allocator());
+        self.apply_into(input, &mut effect)?;
+        Ok(effect)
     }
 
     /// The state of the waiter of this serial; None where there is none. Page `s6-svwait`.

@@ -1,6 +1,6 @@
 //! The tree: one input is one step, which `step.rt` works out and which is then made here. Where
 //! memory is refused, the whole input is handed back.
-ghost use Rattle.std.specs.Prelude.{◌≡◌, ◌≤◌, IfOk, OnOk, IfErr, IsOk, length, true, option_map};
+ghost use Rattle.std.specs.Prelude.{◌≡◌, ◌≤◌, IfOk, OnErr, OnOk, IfErr, IsOk, length, true, option_map};
 ghost use Rattle.tree_core.specs.Acts.{offer_of};
 ghost use Rattle.tree_core.specs.Effect.{outcome_of};
 ghost use Rattle.tree_core.specs.Ended.{has_ended};
@@ -17,9 +17,11 @@ ghost use Rattle.tree_core.specs.Step.{step_limit};
 use super::effect::Effect;
 use super::image::Image;
 use super::input::{Act, Input};
-use super::limits::SERVICE_LIMIT;
+use super::limits::{SERVICE_LIMIT, is_spent};
 use super::next_due::{are_gone, next_timer};
+use super::reply::{Refusal, Reply};
 use super::rows::{fill_rows, row_of, rows_of};
+use super::step::plan_step;
 use arrayvec::ArrayVec;
 use deadlines::Deadlines;
 use event_directory::{Directories, DirectoryAnswer, Pattern};
@@ -76,6 +78,59 @@ impl<A: Allocator + Copy> Tree<A> {
         }
     }
 
+    /// Takes one input as `apply_into` does, but works on the caller's, so that it isn't moved.
+    /// After Ok its contents are unspecified. At `NoMemory` the input is as it was, and only the
+    /// effect has changed. A tree that has taken 2^48 steps is spent, and refuses every input. Else
+    /// the step is planned, and then each part commits its share of the plan; last, the history
+    /// forgets the moments that no waiter needs.
+    pub fn apply_in_place(
+        &mut self,
+        input: &mut Input<A>,
+        effect: &mut Effect<A>,
+    ) -> Result<(), NoMemory>
+        ensures step { OnOk result ((m : Machine) → StandsFor self.old m →
+            (outcome_of effect.new ≡ outcome m input.old)
+            × StandsFor self.new (after m input.old)) }
+        ensures unchanged { OnErr result ((input.new ≡ input.old) × (self.new ≡ self.old)) }
+        ensures spent { self.old.steps ≡ step_limit → IsOk result }
+        ensures quiet { IsQuiet input.old self.old.clock (charts_of self.old.services)
+            → IsOk result }
+    {
+        if is_spent(self.steps) {
+            effect.clear();
+            effect.reply = Reply::Refused(Refusal::Spent);
+            return Ok(());
+        }
+        let planned = plan_step(
+            &mut self.registry,
+            &mut self.deadlines,
+            &mut self.history,
+            &mut self.waits,
+            &mut self.directories,
+            self.clock,
+            self.closing,
+            input,
+            effect,
+        );
+        let plan = match planned {
+            Ok(plan) => plan,
+            Err(refused) => return Err(refused),
+        };
+        // From here on nothing can be refused, so that the pattern of a new subscription (`offer`)
+        // may leave the input.
+        let offer = take_offer(&mut input.act, &plan.letters.answer);
+        self.clock = plan.now;
+        self.steps += 1;
+        self.closing = plan.closing;
+        self.registry.commit(plan.services);
+        self.deadlines.commit(plan.timers);
+        self.history.commit(plan.history);
+        self.waits.commit(plan.waiters);
+        self.directories.commit(plan.letters, offer);
+        self.history.forget(self.waits.needed_from());
+        Ok(())
+    }
+
     /// Takes one input, whole: the clock first, then the due timers, then the act; and fills the
     /// effect with all that the step gives. What was in the effect is gone, but its memory is used
     /// again: a caller that makes many steps keeps one effect, and a step then costs only what it
@@ -96,22 +151,6 @@ impl<A: Allocator + Copy> Tree<A> {
             Ok(()) => Ok(()),
             Err(refused) => Err((input, refused)),
         }
-    }
-
-    /// Takes one input as `apply_into` does, and returns a new effect. A refused act is a step like
-    /// any other. Where memory is refused the same input comes back with `NoMemory`, and nothing
-    /// has changed at all. That never comes from a spent tree, nor for a tick, a status or a
-    /// permafailon at a moment that isn't later than the clock, while no timer is due.
-    pub fn apply(&mut self, input: Input<A>) -> Result<Effect<A>, (Input<A>, NoMemory)>
-        ensures step { IfOk result (λ effect. (m : Machine) → StandsFor self.old m →
-            (outcome_of effect ≡ outcome m input) × StandsFor self.new (after m input)) }
-        ensures unchanged { IfErr result (λ back. (back.0 ≡ input) × (self.new ≡ self.old)) }
-        ensures spent { self.old.steps ≡ step_limit → IsOk result }
-        ensures quiet { IsQuiet input self.old.clock (charts_of self.old.services) → IsOk result }
-    {
-        let mut effect = Effect::new(self.registry.allocator());
-        self.apply_into(input, &mut effect)?;
-        Ok(effect)
     }
 
     /// The clock: the greatest moment of all inputs so far, without those that a spent tree
@@ -211,10 +250,7 @@ fn kept_of<A: Allocator + Copy>(history: &History<A>, forgotten: u64) -> &[Momen
 
 // Takes the pattern that the act offers out of it, and whether it is to repeat, if the event
 // directories answered with a new subscription. Else the act, which is large, is not moved.
-pub(crate) fn take_offer<A: Allocator>(
-    act: &mut Act<A>,
-    told: &DirectoryAnswer,
-) -> Option<(Pattern, bool)>
+fn take_offer<A: Allocator>(act: &mut Act<A>, told: &DirectoryAnswer) -> Option<(Pattern, bool)>
     ensures { is_subscribed told.now ≡ true
         → option_map (λ o. (o.0, o.1)) result ≡ offer_of act.old }
 {
