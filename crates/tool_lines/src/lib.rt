@@ -1,5 +1,5 @@
-//! What the clients of a running tree print: fields of a status, tables, lines of JSON, letters, help
-//! texts, and the words about a fault. What a line of the server says of a service is read here.
+//! What the clients of a running tree print: a service's status, tables, lines of JSON, letters,
+//! help texts, and words about a fault; and how they read a line of the server about a service.
 #![tactic(auto)]
 
 mod age;
