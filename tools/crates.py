@@ -58,7 +58,7 @@ def in_order(table, listed):
 
 def made(text, found, uses):
     """The page as it is to be, and the crates that its tables have."""
-    text = re.sub(r"(?<=```text\n)programs .*?(?=```)", lambda _: "\n".join(picture(found, uses)) + "\n", text, count=1, flags=re.S)
+    text = re.sub(r"(?<=```text\n)program.*?(?=```)", lambda _: "\n".join(picture(found, uses)) + "\n", text, count=1, flags=re.S)
     listed, told = [crate for crates in found.values() for crate in crates], []
 
     def table(match):

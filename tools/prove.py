@@ -18,7 +18,7 @@ SECONDS = {
     "s6_events": 60, "control_letters": 20, "servicedir": 50, "death_tally": 30, "svc_commands": 170, "finish_core": 10, "supervise_core": 105,
     "deadlines": 35, "text_matcher": 45, "svscan_core": 210, "event_directory": 300, "wait_conditions": 185, "tree_core": 230,
     "s6_script": 215, "s6_replay": 320, "run_stories": 260, "day_times": 15, "replay_tool": 60, "channel_names": 5, "inbox": 45,
-    "order_lanes": 70, "error_notes": 50, "child_runner": 345, "line_server": 115, "status_board": 60, "s6_tools": 405, "step_codes": 90, "run_records": 110,
+    "order_lanes": 70, "error_notes": 50, "child_runner": 345, "line_server": 115, "status_board": 60, "tool_lines": 230, "s6_tools": 180, "step_codes": 90, "run_records": 110,
     "run_history": 90, "locked_services": 235, "office": 290, "scan_directory": 80, "server_rules": 280, "svcheck": 40, "server_threads": 140,
     "client_desk": 90, "run_recorder": 75, "tree_driver": 300, "tree_server": 200, "tree_front": 200, "s6_tree": 240,
 }

@@ -1,12 +1,13 @@
 //! A client of a tree that isn't there.
 use crate::attempts::Text;
 use s6_events::NoMemory;
-use s6_tools::{Tool, run_client};
+use s6_tools::run_client;
 use std::alloc::Global;
 use std::io::Write;
 use std::net::Net;
 use std::process::Processes;
 use std::time::Clock;
+use tool_lines::Tool;
 
 /// The words of each tool.
 const WORDS: [(Tool, &str); 4] = [

@@ -1,7 +1,7 @@
 -- What a line of the server says.
 use Rattle.std.specs.Prelude.{ℕ, Bool, List, [], ◌∷◌, true, false, Option, Some, None, codes, take, if◌then◌else◌, ◌||◌}
 use Rattle.std.specs.Str.{bytes_eq}
-use Rattle.s6_tools.specs.Words.{word_in}
+use Rattle.tool_lines.specs.Words.{word_in}
 use Rattle.s6_tools.specs.declared.answer.ServerAnswer.{ServerAnswer}
 use Rattle.s6_tools.specs.declared.answer.ServerAnswer.TheVariants as answer
 use Rattle.s6_tools.specs.declared.answer.Kind.{Kind}

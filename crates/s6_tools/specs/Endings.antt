@@ -3,9 +3,9 @@ use Rattle.std.specs.Prelude.{ℕ, Bool, true, false, codes}
 use Rattle.std.specs.Str.{bytes_eq}
 use Rattle.s6_tools.specs.declared.answer.Outcome.{Outcome}
 use Rattle.s6_tools.specs.declared.answer.Outcome.TheVariants as outcome
-use Rattle.s6_tools.specs.declared.misuse.Misuse.TheVariants as misuse
-use Rattle.s6_tools.specs.declared.tool.Tool.{Tool}
-use Rattle.s6_tools.specs.declared.tool.Tool.TheVariants as tool
+use Rattle.tool_lines.specs.declared.misuse.Misuse.TheVariants as misuse
+use Rattle.tool_lines.specs.declared.tool.Tool.{Tool}
+use Rattle.tool_lines.specs.declared.tool.Tool.TheVariants as tool
 use Rattle.s6_tools.specs.declared.tool_fault.ToolFault.{ToolFault}
 use Rattle.s6_tools.specs.declared.tool_fault.ToolFault.TheVariants as fault
 use Rattle.svc_commands.specs.declared.usage_fault.UsageFault.{UsageFault}

@@ -2,10 +2,10 @@
 use Rattle.std.specs.Prelude.{ℕ, List, Bool, true, false, ◌==◌, ◌||◌, length, nat_eq}
 use Rattle.std.specs.List.{flat_map, list_any, list_all}
 use Rattle.std.specs.Cmp.Lexicographic.{pointwise}
-use Rattle.s6_tools.specs.declared.list_entry.ListEntry.{ListEntry}
-use Rattle.s6_tools.specs.JsonLines.{json_line}
-use Rattle.s6_tools.specs.ListEntries.{name_of_entry}
-use Rattle.s6_tools.specs.Tables.{table_text}
+use Rattle.tool_lines.specs.declared.list_entry.ListEntry.{ListEntry}
+use Rattle.tool_lines.specs.JsonLines.{json_line}
+use Rattle.tool_lines.specs.ListEntries.{name_of_entry}
+use Rattle.tool_lines.specs.Tables.{table_text}
 
 abbrev pub is_among : List (List ℕ) → List ℕ → Bool
 is_among names name = list_any (λ known. pointwise nat_eq known name) names

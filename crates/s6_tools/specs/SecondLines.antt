@@ -1,13 +1,15 @@
 -- The second line on standard error of a tool that didn't do what it was asked for.
 use Rattle.std.specs.Prelude.{ℕ, List, [], ◌∷◌, ◌++◌, Option, Some, None, codes}
-use Rattle.s6_tools.specs.declared.misuse.Misuse.{Misuse}
-use Rattle.s6_tools.specs.declared.tool.Tool.{Tool}
+use Rattle.tool_lines.specs.declared.misuse.Misuse.{Misuse}
+use Rattle.tool_lines.specs.declared.tool.Tool.{Tool}
 use Rattle.s6_tools.specs.declared.tool_fault.ToolFault.{ToolFault}
 use Rattle.s6_tools.specs.declared.tool_fault.ToolFault.TheVariants as fault
-use Rattle.s6_tools.specs.Culprits.{culprit_of, program_of, subject_of}
-use Rattle.s6_tools.specs.FaultLines.{fault_line, name_of}
-use Rattle.s6_tools.specs.Sentences.{cause_before, cause_behind, complaint_of, help_words, misuse_word, refusal_of_subject, refusal_of_tree, right_of, see_words, unnamed_of, unread_words}
-use Rattle.s6_tools.specs.Told.{escaped, named}
+use Rattle.tool_lines.specs.Culprits.{culprit_of, program_of, subject_of}
+use Rattle.s6_tools.specs.Causes.{cause_before, cause_behind}
+use Rattle.s6_tools.specs.FaultLines.{fault_line}
+use Rattle.tool_lines.specs.ToolNames.{name_of}
+use Rattle.tool_lines.specs.Sentences.{complaint_of, help_words, misuse_word, refusal_of_subject, refusal_of_tree, right_of, see_words, unnamed_of, unread_words}
+use Rattle.tool_lines.specs.Told.{escaped, named}
 
 -- what would be right, and where to read on
 abbrev pub advice_text : Tool → Misuse → List ℕ

@@ -3,9 +3,8 @@
 ghost use Rattle.std.specs.Prelude.{◌≡◌};
 ghost use Rattle.s6_tools.specs.Answers.{is_done, kind_of, outcome_of, release_of, match_of, failure_of, answer_of, says_done};
 
-use crate::told_word::ToldWord;
 use crate::tool_fault::ToolFault;
-use crate::words::{is_word, word_or_none};
+use tool_lines::{ToldWord, is_word, word_or_none};
 
 /// How a waiter was released.
 #[derive(Clone, Copy, Debug, PartialEq, Eq)]

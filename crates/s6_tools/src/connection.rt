@@ -1,11 +1,9 @@
 //! A tool's connection to the server of a tree. A busy server has no slot for one more, and is
 //! asked again as long as the tool's patience lasts.
 use crate::answer::{ServerAnswer, read_answer};
-use crate::list_entry::{ListEntry, entry_of, moment_of};
 use crate::patience::{Patience, TRY_TIME};
 use crate::request::{is_harmless, set_request_line};
 use crate::tool_fault::ToolFault;
-use crate::words::word_or_none;
 use mio::net;
 use std::alloc::Global;
 use std::io::{self, BufRead, BufReader, ErrorKind, Write};
@@ -13,6 +11,7 @@ use std::net::Net;
 use std::os::unix::net::UnixStream;
 use std::thread;
 use std::time::{Clock, Duration, Instant};
+use tool_lines::{ListEntry, entry_of, moment_of, word_or_none};
 
 /// Asks the server at this path, on a new connection, and reads its reply. Where the server is
 /// busy, or ends the connection before the answer to a request that may come twice, it asks again,

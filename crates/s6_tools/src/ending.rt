@@ -3,19 +3,17 @@ ghost use Rattle.std.specs.Prelude.{◌≡◌, ◌++◌, IfOk, OnOk, map, option
 ghost use Rattle.s6_tools.specs.Endings.{status_of_fault};
 ghost use Rattle.s6_tools.specs.FaultLines.{fault_line, reason_of};
 ghost use Rattle.s6_tools.specs.SecondLines.{advice_text, cause_of, cause_word, misuse_text, refusal_text, unread_text, hint_of, told_text};
-ghost use Rattle.s6_tools.specs.Told.{escaped};
+ghost use Rattle.tool_lines.specs.Told.{escaped};
 
-use crate::culprit::{culprit_of, program_of, subject_of};
-use crate::misuse::Misuse;
-use crate::sentences::{
-    cause_before, cause_behind, complaint_of, help_words, refusal_of_subject, refusal_of_tree,
-    right_of, see_words, unnamed_of, unread_words,
-};
-use crate::told::{FaultText, add_escaped, add_named};
-use crate::tool::Tool;
+use crate::cause::{cause_before, cause_behind};
 use crate::tool_fault::ToolFault;
 use arrayvec::CapacityError;
 use std::io::Write;
+use tool_lines::{
+    FaultText, Misuse, Tool, add_escaped, add_named, complaint_of, culprit_of, help_words,
+    program_of, refusal_of_subject, refusal_of_tree, right_of, see_words, subject_of, unnamed_of,
+    unread_words,
+};
 
 /// The status of a request that was refused.
 const REFUSED_STATUS: u8 = 1;

@@ -2,12 +2,11 @@
 //! are heard. A free one belongs to no service.
 ghost use Rattle.std.specs.Prelude.{◌≡◌, All, IfOk, IsOk, OnOk, nat_lt, option_map, true, if◌then◌else◌};
 ghost use Rattle.event_directory.specs.Pattern.{is_expression};
-ghost use Rattle.s6_tools.specs.declared.misuse.Misuse.TheVariants as misuse;
+ghost use Rattle.tool_lines.specs.declared.misuse.Misuse.TheVariants as misuse;
 ghost use Rattle.s6_tools.specs.Targets.{before_event, target_of, IsPrintable};
 
 use crate::answer::{ServerAnswer, expect_done};
 use crate::connection::{ask_server, ask_within};
-use crate::misuse::Misuse;
 use crate::patience::Patience;
 use crate::request::{make_directory_request, send_request, subscribe_request};
 use crate::tool_fault::ToolFault;
@@ -17,6 +16,7 @@ use std::alloc::Global;
 use std::io::Write;
 use std::net::Net;
 use std::time::Clock;
+use tool_lines::Misuse;
 use tree_core::{Message, Target};
 
 // What comes before `/event` in a word that ends with it; None for any other word.

@@ -1,9 +1,7 @@
 //! `follow`, which prints letters (what happened to a service, as `u` for up) as they come, and
 //! `record`, which has the server write its record.
 use crate::connection::{ToolConnection, ask_server, await_room};
-use crate::followed_letter::{FollowedLetter, letter_line, letter_of};
 use crate::list_command::{ListCommand, compile_list, is_among};
-use crate::misuse::Misuse;
 use crate::patience::Patience;
 use crate::request::follow_request;
 use crate::tool_fault::ToolFault;
@@ -12,6 +10,7 @@ use std::alloc::Global;
 use std::io::Write;
 use std::net::Net;
 use std::time::{Clock, Instant};
+use tool_lines::{FollowedLetter, Misuse, letter_line, letter_of};
 
 /// Prints each letter of each service, or of the services named, as it comes, until the connection
 /// ends: then the fault is `TreeEnded`, or `Ended` where a server is there still. The tool is this

@@ -3,11 +3,10 @@
 ghost use Rattle.std.specs.Prelude.{◌≡◌, filter};
 ghost use Rattle.s6_tools.specs.Listing.{is_among, is_asked, is_there, are_there};
 
-use crate::list_entry::ListEntry;
-use crate::misuse::Misuse;
 use crate::tool_fault::ToolFault;
 use s6_events::Name;
 use std::alloc::Global;
+use tool_lines::{ListEntry, Misuse};
 
 /// What `list` or `follow` is asked for: the services of these names, or all where there is no
 /// name; and whether lines are to be objects of JSON.

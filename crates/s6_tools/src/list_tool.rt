@@ -4,18 +4,15 @@ ghost use Rattle.std.specs.Prelude.{◌≡◌, IfOk};
 ghost use Rattle.s6_tools.specs.Listing.{listed_text};
 
 use crate::connection::{ToolConnection, await_room};
-use crate::json_line::json_lines;
 use crate::list_command::{ListCommand, are_there, compile_list, keep_asked};
-use crate::list_entry::ListEntry;
 use crate::patience::{Patience, TRY_TIME};
-use crate::table::table_of;
-use crate::told_word::ToldWord;
 use crate::tool_fault::ToolFault;
 use day_times::day_second;
 use std::alloc::{AllocError, Global};
 use std::io::Write;
 use std::net::Net;
 use std::time::{Clock, Instant};
+use tool_lines::{ListEntry, ToldWord, json_lines, table_of};
 
 /// Prints the services of the tree and the directories that the last scan could not read: all, or
 /// those of these names. Where one of the names has neither, the others are printed, and then the

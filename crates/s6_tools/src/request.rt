@@ -4,13 +4,13 @@ ghost use Rattle.std.specs.Prelude.{◌≡◌, ◌++◌, ◌∷◌, [], IfOk, On
 ghost use Rattle.std.specs.List.{join_with_byte};
 ghost use Rattle.tree_core.specs.declared.input.Act.TheVariants.{Svc, Status, Permafailon, Wait, Subscribe, Send, MakeDir};
 ghost use Rattle.s6_tools.specs.Requests.{follow_request_of, is_harmless, request_of, request_line, scan_request_of};
-ghost use Rattle.s6_tools.specs.Words.{word_in};
+ghost use Rattle.tool_lines.specs.Words.{word_in};
 
-use crate::words::{is_word, word_or_none};
 use s6_events::Name;
 use s6_script::{push_named, push_permafailon, push_send, push_subscribe, push_svc, push_wait};
 use std::alloc::{AllocError, Global};
 use svc_commands::{PermafailCommand, ScanLetter, SvcCommand, WaitCommand};
+use tool_lines::{is_word, word_or_none};
 use tree_core::{Message, Target};
 
 /// Fills `line` with a request and its newline, for a tool to send in one write. What it held is

@@ -1,16 +1,14 @@
 //! Finds out whether there is no service of a name because the last scan could not read its
 //! directory.
 ghost use Rattle.std.specs.Prelude.{◌≡◌, option_map};
-ghost use Rattle.s6_tools.specs.ListEntries.{why_unread};
+ghost use Rattle.tool_lines.specs.ListEntries.{why_unread};
 
-use crate::list_entry::ListEntry;
 use crate::list_tool::ask_states_once;
 use crate::patience::TRY_TIME;
-use crate::told_word::ToldWord;
 use crate::tool_fault::ToolFault;
-use crate::words::is_word;
 use std::alloc::Global;
 use std::net::Net;
+use tool_lines::{ListEntry, ToldWord, is_word};
 
 /// The fault of a tool, more exactly: `Unread` where the server has no service of this name because
 /// the last scan could not read its directory. The server is asked once whether that is so. Where

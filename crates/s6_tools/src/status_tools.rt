@@ -3,13 +3,13 @@
 use crate::answer::ServerAnswer;
 use crate::connection::ask_server;
 use crate::request::{permafailon_request, status_request};
-use crate::status_line::svstat_line;
 use crate::tool_fault::ToolFault;
 use std::alloc::Global;
 use std::io::Write;
 use std::net::Net;
 use std::time::Clock;
 use svc_commands::{compile_permafailon, compile_svstat};
+use tool_lines::svstat_line;
 
 /// The status of `permafailon` where the service fails for good.
 const PERMANENT_FAILURE: u8 = 125;

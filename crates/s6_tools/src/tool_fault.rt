@@ -2,12 +2,10 @@
 ghost use Rattle.std.specs.Prelude.{◌≡◌};
 ghost use Rattle.s6_tools.specs.Endings.{is_busy, may_be_retried, of_request};
 
-use crate::misuse::Misuse;
-use crate::told_word::ToldWord;
-use crate::words::is_word;
 use std::alloc::AllocError;
 use std::io;
 use svc_commands::UsageFault;
+use tool_lines::{Misuse, ToldWord, is_word};
 
 /// Why a tool didn't do what it was asked for.
 #[derive(Debug, Drop)]

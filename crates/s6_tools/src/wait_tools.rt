@@ -5,7 +5,6 @@ ghost use Rattle.s6_tools.specs.Endings.{status_of_outcome};
 
 use crate::answer::{Outcome, ServerAnswer};
 use crate::connection::{ToolConnection, ask_once, await_room, millis_since};
-use crate::misuse::Misuse;
 use crate::patience::Patience;
 use crate::request::wait_request;
 use crate::tool_fault::ToolFault;
@@ -14,6 +13,7 @@ use std::net::Net;
 use std::process::{Command, Processes};
 use std::time::{Clock, Instant};
 use svc_commands::{WaitCommand, compile_svlisten, compile_svwait};
+use tool_lines::Misuse;
 
 // The exit status for a waiter that was released with this outcome.
 fn status_of(outcome: Outcome) -> u8

@@ -3,7 +3,7 @@ use crate::counted::CountedText;
 use crate::table::TableServer;
 use crate::whole_requests::come_whole;
 use line_server::{ClientSlots, SLOT_COUNT, Server, serve};
-use s6_tools::{run_client, tool_named};
+use s6_tools::run_client;
 use std::alloc::Global;
 use std::io::{Read, Write};
 use std::net::Net;
@@ -14,6 +14,7 @@ use std::sync::Wait;
 use std::thread::{self, Scope, Threads};
 use std::time::{Clock, Duration};
 use std::{fs, io, str};
+use tool_lines::tool_named;
 
 /// The words of each case, a line for each; the socket's path stands behind the first.
 const CASES: &str = "svc -o web

@@ -1,6 +1,6 @@
 //! Whether requests come whole: a server that reads as soon as there is a byte finds each with its
 //! newline.
-use s6_tools::{Tool, run_client};
+use s6_tools::run_client;
 use std::alloc::Global;
 use std::io::{self, ErrorKind, Read, Write};
 use std::net::Net;
@@ -11,6 +11,7 @@ use std::sync::Wait;
 use std::sync::atomic::{AtomicBool, Ordering};
 use std::thread::{self, Scope, Threads};
 use std::time::{Clock, Duration, Instant};
+use tool_lines::Tool;
 
 /// The letters of one `svscanctl`: a request for each.
 const LETTERS: &str = "-nnnnnnnnnnnnnnnnnnnnnnnnnnnnnnnnnnnnnnnn";

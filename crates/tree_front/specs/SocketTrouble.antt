@@ -1,6 +1,6 @@
 -- The second line of a tree that did not run to its end.
 use Rattle.std.specs.Prelude.{ℕ, List, [], ◌∷◌, ◌++◌, codes}
-use Rattle.s6_tools.specs.Told.{escaped}
+use Rattle.tool_lines.specs.Told.{escaped}
 use Rattle.server_rules.specs.declared.serve_fault.ServeFault.{ServeFault}
 use Rattle.server_rules.specs.declared.serve_fault.ServeFault.TheVariants as fault
 use Rattle.tree_front.specs.declared.socket_trouble.Trouble.{Trouble}

@@ -1,9 +1,9 @@
 -- What is told of wrong words behind the name of a program.
 use Rattle.std.specs.Prelude.{ℕ, List, [], ◌∷◌, ◌++◌, Option, Some, codes}
-use Rattle.s6_tools.specs.declared.misuse.Misuse.{Misuse}
-use Rattle.s6_tools.specs.declared.misuse.Misuse.TheVariants as misuse
-use Rattle.s6_tools.specs.Sentences.{help_words, misuse_word, see_words}
-use Rattle.s6_tools.specs.Told.{named}
+use Rattle.tool_lines.specs.declared.misuse.Misuse.{Misuse}
+use Rattle.tool_lines.specs.declared.misuse.Misuse.TheVariants as misuse
+use Rattle.tool_lines.specs.Sentences.{help_words, misuse_word, see_words}
+use Rattle.tool_lines.specs.Told.{named}
 
 abbrev pub complaint_of : Misuse → List ℕ
 complaint_of misuse.Missing = codes " is missing"

@@ -4,7 +4,7 @@ ghost use Rattle.std.specs.Prelude.{◌≡◌, codes, false, true};
 ghost use Rattle.std.specs.Str.{bytes_eq};
 ghost use Rattle.tree_front.specs.declared.asked.NamedProgram.TheVariants as program;
 
-use s6_tools::{Tool, tool_named};
+use tool_lines::{Tool, tool_named};
 
 /// Which program a first word names.
 #[derive(Clone, Copy, Debug, PartialEq, Eq)]

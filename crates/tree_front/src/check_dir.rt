@@ -1,12 +1,12 @@
 //! `svcheck`: what svscan would do with each entry of a scan directory. It starts nothing.
 use crate::no_memory::tell_no_memory;
-use s6_tools::{FaultText, add_escaped};
 use scan_directory::{FoundServices, read_listing};
 use std::alloc::{AllocError, Global};
 use std::io::{self, Write};
 use std::rt::Files;
 use svcheck::{checked_entries, push_bad_names};
 use svscan_core::Entry;
+use tool_lines::{FaultText, add_escaped};
 
 /// The status where something is refused, or noted.
 const WRONG_STATUS: u8 = 1;

@@ -1,11 +1,11 @@
 //! `connect`: sends standard input to a server, and writes what the server sends to standard
 //! output.
 use arrayvec::CapacityError;
-use s6_tools::{FaultText, add_escaped};
 use std::io::{self, ErrorKind, Read, Write};
 use std::net::{Net, Shutdown};
 use std::os::unix::net::UnixStream;
 use std::thread::{Builder, Threads};
+use tool_lines::{FaultText, add_escaped};
 
 /// How many bytes of a path are told.
 const PATH_BYTES: usize = 107;

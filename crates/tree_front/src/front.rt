@@ -9,7 +9,7 @@ use crate::help_text::{CONNECT_HELP, SVCHECK_HELP, SVSCAN_HELP};
 use crate::no_memory::tell_no_memory;
 use crate::place::TreePlace;
 use crate::usage::refuse_words;
-use s6_tools::{Misuse, run_client};
+use s6_tools::run_client;
 use std::alloc::Global;
 use std::env::Env;
 use std::io::Write;
@@ -18,6 +18,7 @@ use std::process::Processes;
 use std::rt::Files;
 use std::time::Clock;
 use std::{env, io};
+use tool_lines::Misuse;
 
 /// The exit status for wrong usage.
 const USAGE_STATUS: u8 = 100;

@@ -8,8 +8,8 @@ use crate::help_text::{CONNECT_HELP, SVCHECK_HELP, SVSCAN_HELP};
 use crate::usage::refuse_words;
 use arrayvec::CapacityError;
 use replay_tool::{HELP, REPLAY_HELP};
-use s6_tools::{FaultText, Misuse, add_named, help_of};
 use std::io::Write;
+use tool_lines::{FaultText, Misuse, add_named, help_of};
 
 /// The exit status for wrong usage.
 const USAGE_STATUS: u8 = 100;

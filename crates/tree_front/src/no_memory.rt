@@ -6,8 +6,8 @@ ghost use Rattle.tree_front.specs.NoMemory.{no_memory_text};
 
 use arrayvec::CapacityError;
 use s6_replay::write_whole;
-use s6_tools::FaultText;
 use std::io::Write;
+use tool_lines::FaultText;
 
 /// The status of a program to which the system refused something.
 const SYSTEM_STATUS: u8 = 111;

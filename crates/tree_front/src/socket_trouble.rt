@@ -1,16 +1,16 @@
 //! What is told of a tree that did not run to its end: the line of its fault, and a second one that
 //! says what was wrong.
 ghost use Rattle.std.specs.Prelude.{◌≡◌, ◌++◌, OnOk};
-ghost use Rattle.s6_tools.specs.Told.{escaped};
+ghost use Rattle.tool_lines.specs.Told.{escaped};
 ghost use Rattle.tree_front.specs.SocketTrouble.{trouble_before, before_of, second_line};
 
 use crate::place::TreePlace;
 use arrayvec::{ArrayString, CapacityError};
-use s6_tools::{FaultText, add_escaped};
 use std::fs;
 use std::io::Write;
 use std::os::unix::fs::FileTypeExt;
 use std::rt::Files;
+use tool_lines::{FaultText, add_escaped};
 use tree_server::{ServeFault, tell_serve_fault};
 
 /// How many bytes of a path are told.

@@ -4,8 +4,8 @@ ghost use Rattle.std.specs.Prelude.{◌≡◌, ◌++◌, IfOk, OnOk, option_map}
 ghost use Rattle.tree_front.specs.Usage.{advice_text, complaint_of, complaint_text, program_text, usage_text, word_text};
 
 use arrayvec::CapacityError;
-use s6_tools::{FaultText, Misuse, add_named, help_words, see_words};
 use std::io::Write;
+use tool_lines::{FaultText, Misuse, add_named, help_words, see_words};
 
 /// The exit status for wrong usage.
 const USAGE_STATUS: u8 = 100;

@@ -1,5 +1,0 @@
-use Rattle.connection_laws.proofs.InOrder.{in_order}
-use Rattle.connection_laws.proofs.answered_in_order.Goals as goal
-
-pub returns : goal.returns
-returns c = λ events. in_order events

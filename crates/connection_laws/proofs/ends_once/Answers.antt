@@ -1,5 +1,0 @@
-use Rattle.connection_laws.proofs.Ending as ending
-use Rattle.connection_laws.proofs.ends_once.Goals as goal
-
-pub returns : goal.returns
-returns c = λ h events is. ending.ends_once h events is

@@ -1,5 +1,0 @@
-use Rattle.connection_laws.proofs.Left.{nothing_left}
-use Rattle.connection_laws.proofs.nothing_is_left.Goals as goal
-
-pub returns : goal.returns
-returns c = λ events. nothing_left events

@@ -1,5 +1,0 @@
-use Rattle.connection_laws.proofs.Silence as silence
-use Rattle.connection_laws.proofs.silent_once_left.Goals as goal
-
-pub returns : goal.returns
-returns c = λ before after. silence.silent_once_left before after

@@ -1,7 +1,0 @@
-use Rattle.std.proofs.Common.{◌≡◌, take}
-use Rattle.std.specs.List.{flat_map}
-use Rattle.s6_tools.specs.JsonLines.{json_line}
-use Rattle.s6_tools.proofs.json_line.json_lines.Given as goal
-
-abbrev pub invariant-loop-entry : goal.invariant-loop-entry
-invariant-loop-entry l = (l.text.items ≡ flat_map json_line (take l.entry-index l.entries))

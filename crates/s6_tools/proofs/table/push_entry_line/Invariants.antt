@@ -1,8 +1,0 @@
-use Rattle.std.proofs.Common.{◌≡◌, ◌++◌, take}
-use Rattle.std.specs.List.{flat_map}
-use Rattle.s6_tools.specs.Tables.{cell, padded}
-use Rattle.s6_tools.proofs.table.push_entry_line.Given as goal
-
-abbrev pub invariant-loop-sized : goal.invariant-loop-sized
-invariant-loop-sized l =
-    (l.text.items ≡ l.fn.text.items ++ flat_map (λ s. padded s.width (cell l.entry s.column)) (take l.sized-index l.columns))

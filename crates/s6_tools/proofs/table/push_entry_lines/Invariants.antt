@@ -1,7 +1,0 @@
-use Rattle.std.proofs.Common.{◌≡◌, ◌++◌, take}
-use Rattle.std.specs.List.{flat_map}
-use Rattle.s6_tools.specs.Tables.{row_line}
-use Rattle.s6_tools.proofs.table.push_entry_lines.Given as goal
-
-abbrev pub invariant-loop-entry : goal.invariant-loop-entry
-invariant-loop-entry l = (l.text.items ≡ l.fn.text.items ++ flat_map (row_line l.columns) (take l.entry-index l.entries))

@@ -1,6 +1,0 @@
-use Rattle.std.proofs.Common.{◌≡◌, map, take}
-use Rattle.s6_tools.specs.Tables.{padded_columns, sized_column}
-use Rattle.s6_tools.proofs.table.size_columns.Given as goal
-
-abbrev pub invariant-loop-column : goal.invariant-loop-column
-invariant-loop-column l = (l.columns.items ≡ map (sized_column l.entries) (take l.column-index padded_columns))

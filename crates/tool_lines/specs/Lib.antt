@@ -1,0 +1,14 @@
+pub mod Ages
+pub mod Clues
+pub mod Culprits
+pub mod JsonLines
+pub mod Letters
+pub mod ListEntries
+pub mod Sentences
+pub mod ServiceRows
+pub mod StatusLine
+pub mod Tables
+pub mod Told
+pub mod ToolNames
+pub mod Words
+pub mod WrongWords
