@@ -3,8 +3,5 @@
 /// The most input lines of a script.
 pub const INPUT_LIMIT: u64 = 1_000_000;
 
-/// The most bytes of an input line, with its newline.
-pub const INPUT_LINE_LIMIT: usize = 65_536;
-
 /// The most bytes of a reply line, with its newline.
 pub const REPLY_LINE_LIMIT: usize = 262_144;
