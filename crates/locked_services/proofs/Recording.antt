@@ -6,9 +6,9 @@ use Rattle.tree_core.specs.declared.input.Input.{Input}
 use Rattle.tree_core.specs.Machine.{Outcome, new_machine}
 use Rattle.tree_core.specs.Run.{outcomes}
 use Rattle.s6_replay.specs.Checking.{AreLegal}
-use Rattle.s6_replay.specs.Script.{Recorded, head_line, script, step_lines}
-use Rattle.s6_replay.specs.ReplyText.{reply_text}
-use Rattle.s6_replay.specs.declared.version.Version.TheVariants.{Two}
+use Rattle.s6_script.specs.Script.{Recorded, head_line, script, step_lines}
+use Rattle.s6_script.specs.ReplyText.{reply_text}
+use Rattle.s6_script.specs.declared.version.Version.TheVariants.{Two}
 use Rattle.run_records.specs.Runs.{RunStep, IsLegal, inputs_of, outcomes_of}
 use Rattle.run_records.specs.RunText.{lines_of, recorded_of, run_text}
 use Rattle.run_records.proofs.RunText.{lines_join}

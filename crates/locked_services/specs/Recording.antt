@@ -2,7 +2,7 @@
 use Rattle.std.specs.Prelude.{ℕ, List, [], ◌∷◌, ◌++◌, map, true, false}
 use Rattle.std.specs.List.{flat_map}
 use Rattle.std.specs.declared.alloc.Global.{Global}
-use Rattle.s6_replay.specs.Script.{Recorded}
+use Rattle.s6_script.specs.Script.{Recorded}
 use Rattle.run_records.specs.RunText.{recorded_of, run_text}
 use Rattle.locked_services.specs.Chain.{ClosedRun, chain_steps}
 

@@ -5,8 +5,8 @@ ghost use Rattle.tree_core.specs.Machine.{Machine, new_machine};
 ghost use Rattle.tree_core.specs.StandsFor.{StoredTree, StandsFor};
 ghost use Rattle.run_records.specs.Runs.{IsLegal};
 ghost use Rattle.s6_replay.specs.Checking.{AreLegal};
-ghost use Rattle.s6_replay.specs.Script.{script};
-ghost use Rattle.s6_replay.specs.declared.version.Version.TheVariants.{Two};
+ghost use Rattle.s6_script.specs.Script.{script};
+ghost use Rattle.s6_script.specs.declared.version.Version.TheVariants.{Two};
 ghost use Rattle.locked_services.specs.Chain.{ClosedRun, AreChained, AreOneRun, chain_steps};
 ghost use Rattle.locked_services.specs.Recording.{chain_recorded, chain_text};
 

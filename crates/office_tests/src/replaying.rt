@@ -8,7 +8,7 @@ use office::Office;
 use order_lanes::{Backend, Lanes};
 use run_history::KnownHistory;
 use s6_events::Actor;
-use s6_replay::push_reply;
+use s6_script::push_reply;
 use status_board::Board;
 use std::alloc::Global;
 use std::sync::Wait;

@@ -3,9 +3,9 @@ use Rattle.std.proofs.Common.{◌≡◌, ℕ, List, length, take, subst, sym, ar
 use Rattle.std.specs.Prelude.{Option, OnOk, IfErr}
 use Rattle.std.specs.Io.KnownBytes.{Appends}
 use Rattle.std.proofs.lemmas.List.{take_all}
-use Rattle.s6_replay.specs.Lines.{AppendsFront}
-use Rattle.s6_replay.specs.declared.block.WriteFault.{WriteFault}
-use Rattle.s6_replay.specs.declared.block.WriteFault.TheVariants.{Write}
+use Rattle.s6_script.specs.Writing.{AppendsFront}
+use Rattle.s6_script.specs.declared.writing.WriteFault.{WriteFault}
+use Rattle.s6_script.specs.declared.writing.WriteFault.TheVariants.{Write}
 
 -- the writer got the line, or its front
 pub line_front : (answer : Result (Unit {0}) WriteFault) (old new : Option (List ℕ)) (bytes line : List ℕ) → bytes ≡ line

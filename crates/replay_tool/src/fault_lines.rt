@@ -4,7 +4,8 @@ ghost use Rattle.std.specs.Io.KnownBytes.{Appends};
 ghost use Rattle.replay_tool.specs.FaultLines.{status_of, fault_line};
 
 use arrayvec::ArrayVec;
-use s6_replay::{ReplayFault, write_whole};
+use s6_replay::ReplayFault;
+use s6_script::write_whole;
 use std::io::{self, Write};
 
 /// The status of a program whose words were wrong, or whose input is no script.

@@ -3,11 +3,11 @@ use Rattle.std.proofs.Common.{◌≡◌, ℕ, zero, suc, ◌+◌, ◌<◌, List,
 use Rattle.std.specs.Io.KnownBytes.{Appends}
 use Rattle.std.proofs.KnownBytes.{Appends-nil, Appends-trans}
 use Rattle.std.proofs.lemmas.List.{length-append, take-append-le}
-use Rattle.s6_replay.specs.Lines.{AppendsFront}
-use Rattle.s6_replay.specs.Recording.{FitsLine}
-use Rattle.s6_replay.specs.Script.{head_line, step_lines}
-use Rattle.s6_replay.specs.declared.version.Version.TheVariants.{Two}
-use Rattle.s6_replay.proofs.Migrations.{front_more}
+use Rattle.s6_script.specs.Writing.{AppendsFront}
+use Rattle.s6_script.specs.Recording.{FitsLine}
+use Rattle.s6_script.specs.Script.{head_line, step_lines}
+use Rattle.s6_script.specs.declared.version.Version.TheVariants.{Two}
+use Rattle.s6_script.proofs.Fronts.{front_more}
 use Rattle.run_records.specs.Runs.{RunStep}
 use Rattle.std.specs.declared.alloc.Global.{Global}
 use Rattle.tree_core.specs.declared.input.Input.{Input}

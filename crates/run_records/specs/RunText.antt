@@ -5,11 +5,11 @@ use Rattle.std.specs.Io.KnownBytes.{Appends}
 use Rattle.std.specs.declared.alloc.Global.{Global}
 use Rattle.tree_core.specs.declared.input.Input.{Input}
 use Rattle.tree_core.specs.declared.reply.Reply.{Reply}
-use Rattle.s6_replay.specs.declared.version.Version.TheVariants.{Two}
-use Rattle.s6_replay.specs.Lines.{AppendsFront}
-use Rattle.s6_replay.specs.Recording.{FitsLine}
-use Rattle.s6_replay.specs.Script.{Recorded, head_line, step_lines}
-use Rattle.s6_replay.specs.ReplyText.{reply_text}
+use Rattle.s6_script.specs.declared.version.Version.TheVariants.{Two}
+use Rattle.s6_script.specs.Writing.{AppendsFront}
+use Rattle.s6_script.specs.Recording.{FitsLine}
+use Rattle.s6_script.specs.Script.{Recorded, head_line, step_lines}
+use Rattle.s6_script.specs.ReplyText.{reply_text}
 use Rattle.run_records.specs.Runs.{RunStep}
 use Rattle.run_records.specs.declared.writing.RunFault.{RunFault}
 use Rattle.run_records.specs.declared.writing.RunFault.TheVariants.{Write, NoMemory, Unspelt}

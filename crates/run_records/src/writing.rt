@@ -1,9 +1,9 @@
 //! Writing a run as a recorded script.
 ghost use Rattle.std.specs.Prelude.{◌≡◌, ℕ, List, [], IfErr, IfOk, OnOk};
 ghost use Rattle.std.specs.Io.KnownBytes.{Appends};
-ghost use Rattle.s6_replay.specs.Recording.{FitsLine};
-ghost use Rattle.s6_replay.specs.Script.{step_lines};
-ghost use Rattle.s6_replay.specs.declared.version.Version.TheVariants.{Two};
+ghost use Rattle.s6_script.specs.Recording.{FitsLine};
+ghost use Rattle.s6_script.specs.Script.{step_lines};
+ghost use Rattle.s6_script.specs.declared.version.Version.TheVariants.{Two};
 ghost use Rattle.tree_core.specs.Effect.{outcome_of};
 ghost use Rattle.step_codes.specs.StepCodes.{step_onto, FitsStep};
 ghost use Rattle.run_records.specs.Runs.{RunStep};
@@ -11,7 +11,7 @@ ghost use Rattle.run_records.specs.Stored.{IsStored};
 ghost use Rattle.run_records.specs.RunText.{recorded_of, recorded_reply, run_fault_number, run_text, StopsHead, StopsStep};
 
 use crate::step_log::Stored;
-use s6_replay::{SpellFault, spell_step, write_whole};
+use s6_script::{SpellFault, spell_step, write_whole};
 use std::alloc::{AllocError, Global};
 use std::io::Write;
 use step_codes::{Code, take_act, take_head, take_outcome};

@@ -11,14 +11,15 @@ use Rattle.tree_core.specs.Machine.{Machine, new_machine}
 use Rattle.tree_core.specs.Run.{after, after_all}
 use Rattle.tree_core.specs.StandsFor.{StoredTree, StandsFor}
 use Rattle.s6_script.specs.Spelling.{spelling}
-use Rattle.s6_replay.specs.Lines.{HasNoNewline, AppendsFront}
-use Rattle.s6_replay.specs.Script.{Recorded, HasLines, head_line, step_lines, inputs_of, input_limit}
+use Rattle.s6_script.specs.Writing.{AppendsFront}
+use Rattle.s6_replay.specs.Lines.{HasNoNewline}
+use Rattle.s6_script.specs.Script.{Recorded, HasLines, head_line, step_lines, inputs_of, input_limit}
 use Rattle.s6_replay.specs.ReadingStops.{StopsBehind}
 use Rattle.s6_replay.specs.Turn.{HeadStops, EndStops}
-use Rattle.s6_replay.specs.declared.version.Version.{Version}
+use Rattle.s6_script.specs.declared.version.Version.{Version}
 use Rattle.s6_replay.specs.declared.fault.ReplayFault.{ReplayFault}
 use Rattle.s6_replay.specs.declared.fault.ReplayFault.TheVariants.{Head, Line, Pattern, Truncated, Read, Write, NoMemory}
-use Rattle.s6_replay.proofs.Migrations.{front_more}
+use Rattle.s6_script.proofs.Fronts.{front_more}
 use Rattle.s6_replay.proofs.Places.{whole_step}
 use Rattle.s6_replay.proofs.Steps.{ReadsTo, all_more, reads_more, reads_none, make_script, are_read, stops_after, inputs_more, script_more, stops_at_end}
 use Rattle.run_stories.specs.Stories.{Tells, story_of, named_after, named_after_all, run_story}

@@ -4,11 +4,11 @@ use Rattle.std.specs.Io.KnownBytes.{Consumes, Appends, IsAtEnd}
 use Rattle.supervise_core.specs.declared.row.Row.{Row}
 use Rattle.tree_core.specs.Machine.{Machine, new_machine}
 use Rattle.tree_core.specs.StandsFor.{StoredTree, StandsFor}
-use Rattle.s6_replay.specs.Lines.{AppendsFront}
-use Rattle.s6_replay.specs.Script.{Recorded, HasLines, step_lines, script, inputs_of}
+use Rattle.s6_script.specs.Writing.{AppendsFront}
+use Rattle.s6_script.specs.Script.{Recorded, HasLines, step_lines, script, inputs_of}
 use Rattle.s6_replay.specs.ReadingStops.{StopsBehind, BeginsOtherwise, ReadsHead}
 use Rattle.s6_replay.specs.Replay.{MakeScript, IsRead}
-use Rattle.s6_replay.specs.declared.version.Version.{Version}
+use Rattle.s6_script.specs.declared.version.Version.{Version}
 use Rattle.s6_replay.specs.declared.fault.ReplayFault.{ReplayFault}
 use Rattle.s6_replay.specs.declared.fault.ReplayFault.TheVariants.{Head, Line, Pattern, Truncated, Read, Write}
 use Rattle.s6_replay.specs.declared.fault.ReplayFault.TheVariants.{NoMemory}

@@ -4,8 +4,8 @@ ghost use Rattle.std.specs.Prelude.{◌≡◌, ◌<◌, ◌++◌, [], OnOk, IfOk
 ghost use Rattle.std.specs.Io.KnownBytes.{Appends};
 ghost use Rattle.tree_core.specs.Effect.{outcome_of};
 ghost use Rattle.tree_core.specs.Machine.{Machine, new_machine};
-ghost use Rattle.s6_replay.specs.Lines.{AppendsFront};
-ghost use Rattle.s6_replay.specs.Script.{input_limit};
+ghost use Rattle.s6_script.specs.Writing.{AppendsFront};
+ghost use Rattle.s6_script.specs.Script.{input_limit};
 ghost use Rattle.tree_core.specs.Rows.{all_rows};
 ghost use Rattle.tree_core.specs.StandsFor.{StandsFor};
 ghost use Rattle.run_stories.specs.Requests.{reply_lines};
@@ -19,9 +19,8 @@ use crate::cause::{Cause, cause_of};
 use crate::effect_words::push_effect;
 use crate::reply_words::push_reply_lines;
 use arrayvec::ArrayVec;
-use s6_replay::{
-    INPUT_LIMIT, ReplayFault, Scratch, Version, read_end, read_head, read_step, write_whole,
-};
+use s6_replay::{INPUT_LIMIT, ReplayFault, Scratch, read_end, read_head, read_step};
+use s6_script::{Version, write_whole};
 use std::alloc::{AllocError, Allocator, Global};
 use std::io::{BufRead, Write};
 use supervise_core::Row;

@@ -1,7 +1,7 @@
 //! The timeline of a script: a lane for each service name. The script is replayed step by step,
 //! while a watcher notes what the lanes show; then the picture is drawn.
 ghost use Rattle.std.specs.Prelude.{◌<◌};
-ghost use Rattle.s6_replay.specs.Script.{input_limit};
+ghost use Rattle.s6_script.specs.Script.{input_limit};
 
 use crate::drawing::{Layout, write_end, write_frame, write_lane};
 use crate::intervals::{Interval, cut_lane};
@@ -10,7 +10,8 @@ use crate::scale::Scale;
 use crate::story::follow_scan;
 use arrayvec::ArrayVec;
 use s6_events::{At, Name};
-use s6_replay::{INPUT_LIMIT, ReplayFault, Scratch, Version, read_end, read_head, read_step};
+use s6_replay::{INPUT_LIMIT, ReplayFault, Scratch, read_end, read_head, read_step};
+use s6_script::Version;
 use std::alloc::{Allocator, Global};
 use std::io::{BufRead, Write};
 use supervise_core::Row;

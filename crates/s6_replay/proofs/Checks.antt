@@ -8,12 +8,12 @@ use Rattle.std.proofs.lemmas.List.{map-append, length-append}
 use Rattle.tree_core.specs.Machine.{Outcome, new_machine}
 use Rattle.tree_core.specs.Run.{outcome, outcomes, after_all}
 use Rattle.tree_core.specs.StandsFor.{StoredTree, StandsFor}
-use Rattle.s6_replay.specs.Script.{Recorded, head_line, inputs_of, input_limit}
+use Rattle.s6_script.specs.Script.{Recorded, head_line, inputs_of, input_limit}
 use Rattle.s6_replay.specs.ReadingStops.{StopsBehind}
-use Rattle.s6_replay.specs.ReplyText.{reply_text}
+use Rattle.s6_script.specs.ReplyText.{reply_text}
 use Rattle.s6_replay.specs.Turn.{HeadStops, EndStops}
 use Rattle.s6_replay.specs.Checking.{AreLegal, Checks, CheckStops, StopsLegal, ComparesStep, reply_of}
-use Rattle.s6_replay.specs.declared.version.Version.TheVariants.{Two}
+use Rattle.s6_script.specs.declared.version.Version.TheVariants.{Two}
 use Rattle.s6_replay.specs.declared.checking.Compared.TheVariants.{Same, Other}
 use Rattle.s6_replay.specs.declared.checked.Checked.TheVariants.{Legal, Differs}
 use Rattle.s6_replay.specs.declared.fault.ReplayFault.{ReplayFault}

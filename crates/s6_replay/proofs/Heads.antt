@@ -4,10 +4,10 @@ use Rattle.std.specs.Prelude.{Option, Some, None}
 use Rattle.std.specs.Io.KnownBytes.{Consumes}
 use Rattle.std.proofs.KnownBytes.{Consumes-trans}
 use Rattle.std.proofs.lemmas.List.{append_cancel_left, take-append-le}
-use Rattle.s6_replay.specs.Script.{head_line}
+use Rattle.s6_script.specs.Script.{head_line}
 use Rattle.s6_replay.specs.Turn.{HeadStops, LiteralStops, VersionStops, version_digit}
-use Rattle.s6_replay.specs.declared.version.Version.{Version}
-use Rattle.s6_replay.specs.declared.version.Version.TheVariants.{One, Two}
+use Rattle.s6_script.specs.declared.version.Version.{Version}
+use Rattle.s6_script.specs.declared.version.Version.TheVariants.{One, Two}
 use Rattle.s6_replay.specs.declared.fault.ReplayFault.{ReplayFault}
 use Rattle.s6_replay.specs.declared.fault.ReplayFault.TheVariants.{Head, Line, Pattern, Truncated, Read, Write, NoMemory}
 

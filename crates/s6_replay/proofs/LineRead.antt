@@ -7,9 +7,10 @@ use Rattle.tree_core.specs.declared.input.Input.{Input}
 use Rattle.tree_core.specs.Machine.{Machine, Outcome}
 use Rattle.tree_core.specs.Run.{after, outcome}
 use Rattle.tree_core.specs.StandsFor.{StoredTree, StandsFor}
-use Rattle.s6_replay.specs.Lines.{HasNoNewline, AppendsFront}
+use Rattle.s6_script.specs.Writing.{AppendsFront}
+use Rattle.s6_replay.specs.Lines.{HasNoNewline}
 use Rattle.s6_script.specs.Spelling.{HasExpression, Spells, spelling}
-use Rattle.s6_replay.specs.Script.{HasLine, input_line}
+use Rattle.s6_script.specs.Script.{HasLine, input_line}
 use Rattle.s6_replay.specs.Transcript.{block}
 use Rattle.s6_replay.specs.Turn.{Answers}
 

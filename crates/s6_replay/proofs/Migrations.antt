@@ -1,26 +1,27 @@
 -- A migration that goes on by one step, stops or ends.
-use Rattle.std.proofs.Common.{◌≡◌, ℕ, ◌+◌, ◌<◌, ◌≤◌, List, [], ◌∷◌, ◌++◌, length, take, refl, sym, ap, ◌∙◌, subst, append-nil}
+use Rattle.std.proofs.Common.{◌≡◌, ℕ, ◌+◌, ◌<◌, ◌≤◌, List, [], ◌∷◌, ◌++◌, length, refl, sym, ap, ◌∙◌, subst, append-nil}
 use Rattle.std.proofs.Common.{arith, inl, inr}
 use Rattle.std.specs.Prelude.{Option}
 use Rattle.std.specs.Io.KnownBytes.{Consumes, Appends}
 use Rattle.std.proofs.KnownBytes.{Consumes-trans, Appends-trans}
-use Rattle.std.proofs.Math.Seq.{take-append-add}
 use Rattle.std.proofs.lemmas.List.{length-append}
 use Rattle.tree_core.specs.declared.input.Input.{Input}
 use Rattle.tree_core.specs.Machine.{Machine, new_machine}
 use Rattle.tree_core.specs.Run.{after, after_all}
 use Rattle.tree_core.specs.StandsFor.{StoredTree, StandsFor}
 use Rattle.s6_script.specs.Spelling.{spelling}
-use Rattle.s6_replay.specs.Lines.{HasNoNewline, AppendsFront}
-use Rattle.s6_replay.specs.Script.{Recorded, HasLines, head_line, step_lines, script, inputs_of, input_limit}
+use Rattle.s6_script.specs.Writing.{AppendsFront}
+use Rattle.s6_replay.specs.Lines.{HasNoNewline}
+use Rattle.s6_script.specs.Script.{Recorded, HasLines, head_line, step_lines, script, inputs_of, input_limit}
 use Rattle.s6_replay.specs.ReadingStops.{StopsBehind}
 use Rattle.s6_replay.specs.Turn.{HeadStops, EndStops}
 use Rattle.s6_replay.specs.Migration.{recorded, recorded_step, recorded_script, RecordingStops, Records, RecordStops, Migrates, MigrateStops, StopsMigrating}
 use Rattle.s6_replay.specs.declared.counts.Counts.{Counts}
-use Rattle.s6_replay.specs.declared.version.Version.TheVariants.{One, Two}
+use Rattle.s6_script.specs.declared.version.Version.TheVariants.{One, Two}
 use Rattle.s6_replay.specs.declared.turn.Turn.TheVariants.{Done, End}
 use Rattle.s6_replay.specs.declared.fault.ReplayFault.{ReplayFault}
 use Rattle.s6_replay.specs.declared.fault.ReplayFault.TheVariants.{Head, Line, Pattern, Truncated, Read, Write, NoMemory}
+use Rattle.s6_script.proofs.Fronts.{front_more}
 use Rattle.s6_replay.proofs.Places.{whole_step}
 use Rattle.s6_replay.proofs.Steps.{ReadsTo, Counted, reads_more, reads_none, counts_more, counts_none, make_script, are_read, stops_after}
 use Rattle.s6_replay.proofs.Steps.{all_more, inputs_more, script_more, stops_at_end}
@@ -45,14 +46,6 @@ text_more steps s =
     ap recorded_script (inputs_more steps s)
     ∙ ap (script Two) (recorded_more new_machine (inputs_of steps) s.input)
     ∙ script_more Two (recorded new_machine (inputs_of steps)) (recorded_step (after_all new_machine (inputs_of steps)) s.input)
-
--- some of the last part was written behind all before it
-pub front_more : (x y z : Option (List ℕ)) (xs ys : List ℕ) → Appends x y xs → AppendsFront y z ys → AppendsFront x z (xs ++ ys)
-front_more x y z xs ys p q = (
-  length xs + q.0,
-  omega (arith, q.1, length-append xs ys),
-  subst (Appends x z) (sym (take-append-add xs ys q.0)) (Appends-trans x y z xs (take q.0 ys) p q.2),
-)
 
 pub starts : (A : Type 0) (a b x y : Option (List ℕ)) (tree : StoredTree) (counts : Counts) → Consumes a b (head_line One)
     → Appends x y (head_line Two) → StandsFor tree new_machine → counts.inputs ≡ 0 → counts.events ≡ 0 → counts.orders ≡ 0

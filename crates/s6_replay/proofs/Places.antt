@@ -8,15 +8,15 @@ use Rattle.std.proofs.lemmas.List.{length-append}
 use Rattle.tree_core.specs.declared.input.Input.{Input}
 use Rattle.s6_script.specs.Spelling.{Spells, spelling}
 use Rattle.s6_replay.specs.Lines.{HasNoNewline}
-use Rattle.s6_replay.specs.Script.{Recorded, HasLine, HasLines, IsPrintable}
+use Rattle.s6_script.specs.Script.{Recorded, HasLine, HasLines, IsPrintable}
 use Rattle.s6_replay.specs.ReadingStops.{Place, IsNoLine, StopsBehind, ReadsOn, lead}
-use Rattle.s6_replay.specs.Script.{input_limit, input_line, reply_record, step_lines}
+use Rattle.s6_script.specs.Script.{input_limit, input_line, reply_record, step_lines}
 use Rattle.s6_replay.specs.ReadingStops.{line_limit}
 use Rattle.s6_replay.specs.ReadingStops.IsNoLine.{holds_other, too_long}
 use Rattle.s6_replay.specs.ReadingStops.Place.{at_input, at_reply}
 use Rattle.s6_replay.specs.Turn.{ReplyStops}
-use Rattle.s6_replay.specs.declared.version.Version.{Version}
-use Rattle.s6_replay.specs.declared.version.Version.TheVariants.{One, Two}
+use Rattle.s6_script.specs.declared.version.Version.{Version}
+use Rattle.s6_script.specs.declared.version.Version.TheVariants.{One, Two}
 use Rattle.s6_replay.specs.declared.fault.ReplayFault.{ReplayFault}
 use Rattle.s6_replay.specs.declared.fault.ReplayFault.TheVariants.{Head, Line, Pattern, Truncated, Read, Write, NoMemory}
 

@@ -9,14 +9,15 @@ use Rattle.tree_core.specs.Machine.{Machine, new_machine}
 use Rattle.tree_core.specs.Run.{after, outcome, outcomes, after_all}
 use Rattle.tree_core.specs.StandsFor.{StoredTree, StandsFor}
 use Rattle.s6_script.specs.Spelling.{spelling}
-use Rattle.s6_replay.specs.Lines.{HasNoNewline, AppendsFront}
-use Rattle.s6_replay.specs.Script.{Recorded, HasLines, head_line, step_lines, inputs_of, input_limit}
+use Rattle.s6_script.specs.Writing.{AppendsFront}
+use Rattle.s6_replay.specs.Lines.{HasNoNewline}
+use Rattle.s6_script.specs.Script.{Recorded, HasLines, head_line, step_lines, inputs_of, input_limit}
 use Rattle.s6_replay.specs.ReadingStops.{StopsBehind}
 use Rattle.s6_replay.specs.Replay.{IsWhole, Stops, StopsReading, Written, transcript}
 use Rattle.s6_replay.specs.Transcript.{block, blocks}
 use Rattle.s6_replay.specs.Turn.{Answers, AnswerStops, HeadStops, Turns, TurnStops, EndStops}
 use Rattle.s6_replay.specs.declared.counts.Counts.{Counts}
-use Rattle.s6_replay.specs.declared.version.Version.{Version}
+use Rattle.s6_script.specs.declared.version.Version.{Version}
 use Rattle.s6_replay.specs.declared.fault.ReplayFault.{ReplayFault}
 use Rattle.s6_replay.specs.declared.fault.ReplayFault.TheVariants.{Head, Line, Pattern, Truncated, Read, Write, NoMemory}
 use Rattle.s6_replay.specs.declared.turn.Turn.TheVariants.{Done, End}

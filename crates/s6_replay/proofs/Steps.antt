@@ -10,7 +10,7 @@ use Rattle.tree_core.specs.declared.input.Input.{Input}
 use Rattle.tree_core.specs.Machine.{Machine, Outcome, new_machine}
 use Rattle.tree_core.specs.Run.{after, outcome, outcomes, after_all}
 use Rattle.tree_core.specs.StandsFor.{StoredTree, StandsFor}
-use Rattle.s6_replay.specs.Script.{Recorded, HasLines, step_lines, script, head_line, inputs_of, input_limit}
+use Rattle.s6_script.specs.Script.{Recorded, HasLines, step_lines, script, head_line, inputs_of, input_limit}
 use Rattle.s6_replay.specs.ReadingStops.{StopsBehind}
 use Rattle.s6_replay.specs.ReadingStops.IsNoLine.{too_many}
 use Rattle.s6_replay.specs.ReadingStops.Place.{at_input}
@@ -18,7 +18,7 @@ use Rattle.s6_replay.specs.Replay.{CountsOf, IsRead, MakeScript}
 use Rattle.s6_replay.specs.Turn.{EndStops}
 use Rattle.s6_replay.proofs.Places.{stops_behind}
 use Rattle.s6_replay.specs.declared.counts.Counts.{Counts}
-use Rattle.s6_replay.specs.declared.version.Version.{Version}
+use Rattle.s6_script.specs.declared.version.Version.{Version}
 use Rattle.s6_replay.specs.declared.fault.ReplayFault.{ReplayFault}
 use Rattle.s6_replay.specs.declared.fault.ReplayFault.TheVariants.{Head, Line, Pattern, Truncated, Read, Write, NoMemory}
 

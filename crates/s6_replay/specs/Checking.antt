@@ -5,11 +5,11 @@ use Rattle.tree_core.specs.declared.input.Input.{Input}
 use Rattle.tree_core.specs.Machine.{Machine, new_machine}
 use Rattle.tree_core.specs.Run.{after, outcome, outcomes, after_all}
 use Rattle.tree_core.specs.StandsFor.{StoredTree, StandsFor}
-use Rattle.s6_replay.specs.Script.{Recorded, HasLines, step_lines, script, inputs_of}
+use Rattle.s6_script.specs.Script.{Recorded, HasLines, step_lines, script, inputs_of}
 use Rattle.s6_replay.specs.ReadingStops.{StopsBehind, BeginsOtherwise, ReadsHead}
 use Rattle.s6_replay.specs.Replay.{MakeScript, IsRead}
-use Rattle.s6_replay.specs.ReplyText.{reply_text}
-use Rattle.s6_replay.specs.declared.version.Version.TheVariants.{Two}
+use Rattle.s6_script.specs.ReplyText.{reply_text}
+use Rattle.s6_script.specs.declared.version.Version.TheVariants.{Two}
 use Rattle.s6_replay.specs.declared.checking.Compared.{Compared}
 use Rattle.s6_replay.specs.declared.checking.Compared.TheVariants.{Same, Other, End}
 use Rattle.s6_replay.specs.declared.checked.Checked.{Checked}

@@ -1,11 +1,8 @@
 pub mod Transcript
-pub mod ReplyText
 pub mod Lines
-pub mod Script
 pub mod ReadingStops
 pub mod Replay
 pub mod Turn
 pub mod Checking
 pub mod Migration
-pub mod Recording
 pub mod FaultNumber

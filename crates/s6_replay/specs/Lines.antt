@@ -1,6 +1,6 @@
--- What reading a line takes from a reader, and writing gives to a writer.
-use Rattle.std.specs.Prelude.{◌≡◌, ◌≢◌, ℕ, ◌<◌, ◌≤◌, List, [], ◌∷◌, ◌++◌, All, length, take, Option, None, Some, ◌⊎◌}
-use Rattle.std.specs.Io.KnownBytes.{Consumes, Appends, IsAtEnd}
+-- What reading a line takes from a reader.
+use Rattle.std.specs.Prelude.{◌≡◌, ◌≢◌, ℕ, ◌<◌, ◌≤◌, List, [], ◌∷◌, ◌++◌, All, length, Option, None, Some, ◌⊎◌}
+use Rattle.std.specs.Io.KnownBytes.{Consumes, IsAtEnd}
 use Rattle.s6_replay.specs.declared.line.Ended.{Ended}
 use Rattle.s6_replay.specs.declared.line.Ended.TheVariants.{Newline, End, TooLong}
 
@@ -29,7 +29,3 @@ EndsAs limit TooLong old new line =
 abbrev pub GoesOnOrEnds : ℕ → Option Ended → Option (List ℕ) → Option (List ℕ) → List ℕ → Type 0
 GoesOnOrEnds limit None old new line = IsPart limit line × Consumes old new line
 GoesOnOrEnds limit (Some ended) old new line = EndsAs limit ended old new line
-
--- the writer got some of the bytes, or none, from the front on, and not all
-abbrev pub AppendsFront : Option (List ℕ) → Option (List ℕ) → List ℕ → Type 0
-AppendsFront old new bytes = (n : ℕ) × (n < length bytes) × Appends old new (take n bytes)

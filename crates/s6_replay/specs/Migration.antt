@@ -5,13 +5,13 @@ use Rattle.tree_core.specs.declared.input.Input.{Input}
 use Rattle.tree_core.specs.Machine.{Machine, new_machine}
 use Rattle.tree_core.specs.Run.{after, outcome}
 use Rattle.tree_core.specs.StandsFor.{StoredTree, StandsFor}
-use Rattle.s6_replay.specs.Lines.{AppendsFront}
-use Rattle.s6_replay.specs.Script.{Recorded, HasLines, head_line, step_lines, script, inputs_of}
+use Rattle.s6_script.specs.Writing.{AppendsFront}
+use Rattle.s6_script.specs.Script.{Recorded, HasLines, head_line, step_lines, script, inputs_of}
 use Rattle.s6_replay.specs.ReadingStops.{StopsBehind, BeginsOtherwise, ReadsHead}
 use Rattle.s6_replay.specs.Replay.{CountsOf, MakeScript, IsRead}
 use Rattle.s6_replay.specs.Checking.{reply_of}
 use Rattle.s6_replay.specs.declared.counts.Counts.{Counts}
-use Rattle.s6_replay.specs.declared.version.Version.TheVariants.{One, Two}
+use Rattle.s6_script.specs.declared.version.Version.TheVariants.{One, Two}
 use Rattle.s6_replay.specs.declared.turn.Turn.{Turn}
 use Rattle.s6_replay.specs.declared.turn.Turn.TheVariants.{Done, End}
 use Rattle.s6_replay.specs.declared.fault.ReplayFault.{ReplayFault}

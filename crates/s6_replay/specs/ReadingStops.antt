@@ -4,12 +4,12 @@ use Rattle.std.specs.Io.KnownBytes.{Consumes, IsAtEnd}
 use Rattle.tree_core.specs.declared.input.Input.{Input}
 use Rattle.s6_replay.specs.Lines.{HasNoNewline, IsPart, IsWithinLine}
 use Rattle.s6_script.specs.Spelling.{Spells, SpellsButForPattern}
-use Rattle.s6_replay.specs.declared.version.Version.{Version}
-use Rattle.s6_replay.specs.declared.version.Version.TheVariants.{One, Two}
+use Rattle.s6_script.specs.declared.version.Version.{Version}
+use Rattle.s6_script.specs.declared.version.Version.TheVariants.{One, Two}
 use Rattle.s6_replay.specs.declared.fault.ReplayFault.{ReplayFault}
 use Rattle.s6_replay.specs.declared.fault.ReplayFault.TheVariants.{Head, Line, Pattern, Truncated, Read, Write}
 use Rattle.s6_replay.specs.declared.fault.ReplayFault.TheVariants.{NoMemory}
-use Rattle.s6_replay.specs.Script.{head_line, input_limit, input_line, HasLine, IsReplyText}
+use Rattle.s6_script.specs.Script.{head_line, input_limit, input_line, HasLine, IsReplyText}
 
 -- which line comes after some whole steps: that of an input, or that of the reply to an input that was read
 pub data Place (A : Type 0) : Type 0 where

@@ -5,12 +5,12 @@ use Rattle.std.specs.Io.KnownBytes.{Consumes, Appends, IsAtEnd}
 use Rattle.tree_core.specs.declared.input.Input.{Input}
 use Rattle.tree_core.specs.Machine.{new_machine}
 use Rattle.tree_core.specs.Run.{outcome, outcomes, after_all}
-use Rattle.s6_replay.specs.Lines.{AppendsFront}
-use Rattle.s6_replay.specs.Script.{Recorded, HasLines, script, inputs_of, input_limit}
+use Rattle.s6_script.specs.Writing.{AppendsFront}
+use Rattle.s6_script.specs.Script.{Recorded, HasLines, script, inputs_of, input_limit}
 use Rattle.s6_replay.specs.ReadingStops.{StopsBehind, BeginsOtherwise, ReadsHead}
 use Rattle.s6_replay.specs.Transcript.{block, blocks}
 use Rattle.s6_replay.specs.declared.counts.Counts.{Counts}
-use Rattle.s6_replay.specs.declared.version.Version.{Version}
+use Rattle.s6_script.specs.declared.version.Version.{Version}
 use Rattle.s6_replay.specs.declared.fault.ReplayFault.{ReplayFault}
 use Rattle.s6_replay.specs.declared.fault.ReplayFault.TheVariants.{Head, Line, Pattern, Truncated, Read, Write}
 use Rattle.s6_replay.specs.declared.fault.ReplayFault.TheVariants.{NoMemory}

@@ -6,15 +6,16 @@ use Rattle.tree_core.specs.Machine.{Machine, Outcome}
 use Rattle.tree_core.specs.Run.{after, outcome}
 use Rattle.tree_core.specs.StandsFor.{StoredTree, StandsFor}
 use Rattle.s6_script.specs.Spelling.{spelling}
-use Rattle.s6_replay.specs.Lines.{HasNoNewline, IsPart, IsWithinLine, AppendsFront}
-use Rattle.s6_replay.specs.Script.{Recorded, HasLines, HasLine, IsPrintable, step_lines, input_line}
+use Rattle.s6_script.specs.Writing.{AppendsFront}
+use Rattle.s6_replay.specs.Lines.{HasNoNewline, IsPart, IsWithinLine}
+use Rattle.s6_script.specs.Script.{Recorded, HasLines, HasLine, IsPrintable, step_lines, input_line}
 use Rattle.s6_replay.specs.ReadingStops.{IsNoLine, StopsBehind, BeginsOtherwise, ReadsHead}
 use Rattle.s6_replay.specs.ReadingStops.Place.{at_reply}
-use Rattle.s6_replay.specs.Script.{input_limit}
+use Rattle.s6_script.specs.Script.{input_limit}
 use Rattle.s6_replay.specs.ReadingStops.{input_line_number}
 use Rattle.s6_replay.specs.Transcript.{block}
-use Rattle.s6_replay.specs.declared.version.Version.{Version}
-use Rattle.s6_replay.specs.declared.version.Version.TheVariants.{One, Two}
+use Rattle.s6_script.specs.declared.version.Version.{Version}
+use Rattle.s6_script.specs.declared.version.Version.TheVariants.{One, Two}
 use Rattle.s6_replay.specs.declared.line.LineReadFault.{LineReadFault}
 use Rattle.s6_replay.specs.declared.line.LineReadFault.TheVariants as reads
 use Rattle.s6_replay.specs.declared.turn.Turn.{Turn}

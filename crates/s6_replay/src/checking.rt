@@ -3,7 +3,7 @@
 ghost use Rattle.std.specs.Prelude.{◌≡◌, ◌<◌, [], IfOk, IfErr};
 ghost use Rattle.tree_core.specs.Machine.{new_machine};
 ghost use Rattle.tree_core.specs.StandsFor.{StandsFor};
-ghost use Rattle.s6_replay.specs.Script.{input_limit};
+ghost use Rattle.s6_script.specs.Script.{input_limit};
 ghost use Rattle.s6_replay.specs.ReadingStops.{StopsBehind};
 ghost use Rattle.s6_replay.specs.Turn.{text_in};
 ghost use Rattle.s6_replay.specs.Checking.{Checks, CheckStops, Compares, ComparesStep};
@@ -14,8 +14,7 @@ use super::fault::ReplayFault;
 use super::head::read_head;
 use super::limits::INPUT_LIMIT;
 use super::reading::{Scratch, read_end, read_step};
-use super::reply_text::push_reply;
-use super::version::Version;
+use s6_script::{Version, push_reply};
 use std::alloc::{Allocator, Global};
 use std::io::BufRead;
 use tree_core::{Effect, Input, Tree};

@@ -1,11 +1,11 @@
 //! The head line of a script: `s6-script 1` or `s6-script 2`, by the version of its format.
 ghost use Rattle.std.specs.Prelude.{◌∷◌, [], ◌++◌, codes, OnOk, IfOk, IfErr};
 ghost use Rattle.std.specs.Io.KnownBytes.{Consumes};
-ghost use Rattle.s6_replay.specs.Script.{head_line};
+ghost use Rattle.s6_script.specs.Script.{head_line};
 ghost use Rattle.s6_replay.specs.Turn.{HeadStops, LiteralStops, version_digit, VersionStops};
 
 use super::fault::ReplayFault;
-use super::version::Version;
+use s6_script::Version;
 use std::io::{BufRead, Read};
 
 // Reads just these bytes. `Head` where other bytes come, or the end of the input; `Read` where the

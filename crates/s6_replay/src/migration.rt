@@ -4,19 +4,17 @@ ghost use Rattle.std.specs.Prelude.{◌≡◌, ◌<◌, ◌++◌, ◌∷◌, [],
 ghost use Rattle.s6_script.specs.Spelling.{spelling};
 ghost use Rattle.tree_core.specs.Machine.{new_machine};
 ghost use Rattle.tree_core.specs.StandsFor.{StandsFor};
-ghost use Rattle.s6_replay.specs.Script.{input_limit, reply_record};
-ghost use Rattle.s6_replay.specs.ReplyText.{reply_text};
+ghost use Rattle.s6_script.specs.Script.{input_limit, reply_record};
+ghost use Rattle.s6_script.specs.ReplyText.{reply_text};
 ghost use Rattle.s6_replay.specs.Migration.{IsRecorded, RecordingStops, Records, RecordStops, Migrates, MigrateStops, HeadWritten, HeadUnwritten};
 
-use super::block::{WriteFault, write_whole};
 use super::counts::Counts;
 use super::fault::ReplayFault;
 use super::head::read_head;
 use super::limits::INPUT_LIMIT;
 use super::reading::{Scratch, read_end, read_step};
-use super::reply_text::push_reply;
 use super::turn::Turn;
-use super::version::Version;
+use s6_script::{Version, WriteFault, push_reply, write_whole};
 use std::alloc::{AllocError, Allocator, Global};
 use std::io::{BufRead, Write};
 use tree_core::{Effect, Input, Reply, Tree};

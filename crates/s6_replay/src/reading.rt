@@ -3,16 +3,15 @@
 ghost use Rattle.std.specs.Prelude.{◌≡◌, ◌<◌, ◌≤◌, [], IfOk, IfErr, OnOk, IsTrue, Some, None, if◌then◌else◌};
 ghost use Rattle.std.specs.Io.KnownBytes.{Consumes, IsAtEnd};
 ghost use Rattle.s6_script.specs.Spelling.{spelling};
-ghost use Rattle.s6_replay.specs.Script.{IsReplyText, input_limit, reply_record};
+ghost use Rattle.s6_script.specs.Script.{IsReplyText, input_limit, reply_record};
 ghost use Rattle.s6_replay.specs.ReadingStops.{StopsBehind, input_line_number};
 ghost use Rattle.s6_replay.specs.Turn.{InputWasRead, WasRead, ReplyStops, HoldsReply, EndStops, text_in};
 
 use super::fault::ReplayFault;
-use super::limits::{INPUT_LIMIT, INPUT_LINE_LIMIT, REPLY_LINE_LIMIT};
+use super::limits::{INPUT_LIMIT, REPLY_LINE_LIMIT};
 use super::line::{Ended, LineReadFault, read_line};
-use super::version::Version;
 use s6_events::{Actor, At};
-use s6_script::{LineFault, parse_into};
+use s6_script::{INPUT_LINE_LIMIT, LineFault, Version, parse_into};
 use std::alloc::{Allocator, Global};
 use std::io::{BufRead, Read};
 use tree_core::{Act, Effect, Input};

@@ -1,13 +1,13 @@
 //! One turn of a replay: a step of the script is read and applied, and its block (its part of the
 //! transcript) is written.
 ghost use Rattle.std.specs.Prelude.{◌<◌, IfOk, IfErr};
-ghost use Rattle.s6_replay.specs.Script.{input_limit};
+ghost use Rattle.s6_script.specs.Script.{input_limit};
 ghost use Rattle.s6_replay.specs.Turn.{Turns, TurnStops};
 
-use super::block::{WriteFault, write_block};
+use super::block::write_block;
 use super::fault::ReplayFault;
 use super::reading::{Scratch, read_step};
-use super::version::Version;
+use s6_script::{Version, WriteFault};
 use std::alloc::{Allocator, Global};
 use std::io::{BufRead, Write};
 use tree_core::Tree;

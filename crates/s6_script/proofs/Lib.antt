@@ -14,3 +14,4 @@ pub mod ReadOnce
 pub mod WordsTaken
 pub mod Letters
 pub mod Items
+pub mod Fronts

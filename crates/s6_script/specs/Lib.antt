@@ -6,3 +6,8 @@ pub mod Spelling
 pub mod Telling
 pub mod Unbuilt
 pub mod ReadActs
+pub mod ReplyText
+pub mod EffectLines
+pub mod Writing
+pub mod Script
+pub mod Recording

@@ -3,7 +3,7 @@ use Rattle.std.specs.Prelude.{◌≡◌, ◌≢◌, ℕ, List, [], ◌∷◌, �
 use Rattle.std.specs.Char.Escape.{escape_ascii}
 use Rattle.std.specs.Io.KnownBytes.{Appends}
 use Rattle.std.specs.List.{flat_map}
-use Rattle.s6_replay.specs.Lines.{AppendsFront}
+use Rattle.s6_script.specs.Writing.{AppendsFront}
 use Rattle.servicedir.specs.ServiceName.{seen_of}
 use Rattle.servicedir.specs.declared.service_name.Seen.{Seen}
 use Rattle.servicedir.specs.declared.service_name.Seen.TheVariants as seen

@@ -3,7 +3,7 @@
 ghost use Rattle.std.specs.Prelude.{◌≡◌, ◌++◌, IfOk, OnOk, option_to_list};
 ghost use Rattle.std.specs.Char.Escape.{escape_ascii};
 ghost use Rattle.std.specs.List.{flat_map};
-ghost use Rattle.s6_replay.specs.Recording.{FitsLine};
+ghost use Rattle.s6_script.specs.Recording.{FitsLine};
 ghost use Rattle.servicedir.specs.ServiceName.{seen_of};
 ghost use Rattle.servicedir.specs.declared.service_name.Seen.TheVariants.{Bad};
 ghost use Rattle.scan_directory.specs.Names.{listed_names, service_in, AreListed, bad_name_lines, IsTold};
@@ -15,7 +15,7 @@ use crate::found::{FoundServices, Noted, Remark, fault_word, push_note_line};
 use crate::noting::{note_service, push_note};
 use crate::service_files::ServiceFiles;
 use s6_events::{Actor, At, Name};
-use s6_replay::{SpellFault, write_input, write_whole};
+use s6_script::{SpellFault, write_input, write_whole};
 use servicedir::{Config, DirFault, Seen, read};
 use std::alloc::{AllocError, Global};
 use std::io::{BufRead, BufReader, ErrorKind, Write};

@@ -2,8 +2,8 @@
 use Rattle.std.specs.Prelude.{ℕ, Bool, true, false, List, [], ◌∷◌, ◌++◌, slice_get, slice_set, Option, Some, None}
 use Rattle.std.specs.List.{position}
 use Rattle.std.specs.declared.alloc.Global.{Global}
-use Rattle.s6_replay.specs.Transcript.{match_line, release_line}
-use Rattle.s6_replay.specs.ReplyText.{reply_text}
+use Rattle.s6_script.specs.EffectLines.{match_line, release_line}
+use Rattle.s6_script.specs.ReplyText.{reply_text}
 use Rattle.svscan_core.specs.declared.event.Event.{Event}
 use Rattle.tree_core.specs.Machine.{Outcome}
 use Rattle.tree_core.specs.declared.effect.Match.{Match}

@@ -2,7 +2,7 @@
 use Rattle.std.specs.Prelude.{ℕ, Bool, true, List, [], ◌∷◌, ◌++◌, Option, Some, None, codes, decimal}
 use Rattle.std.specs.List.{find, flat_map}
 use Rattle.std.specs.Str.{bytes_eq}
-use Rattle.s6_replay.specs.ReplyText.{row_text}
+use Rattle.s6_script.specs.ReplyText.{row_text}
 use Rattle.supervise_core.specs.declared.row.Row.{Row}
 use Rattle.server_rules.specs.declared.status_lines.Subject.{Subject}
 use Rattle.server_rules.specs.declared.status_lines.Subject.TheVariants.{One, All, States}

@@ -1,10 +1,10 @@
 //! Why a tree did not run to its end, and what is told of it.
 ghost use Rattle.std.specs.Prelude.{◌≡◌, ◌⊎◌};
 ghost use Rattle.std.specs.Io.KnownBytes.{Appends};
-ghost use Rattle.s6_replay.specs.Lines.{AppendsFront};
+ghost use Rattle.s6_script.specs.Writing.{AppendsFront};
 ghost use Rattle.server_rules.specs.Faults.{fault_text};
 
-use s6_replay::write_whole;
+use s6_script::write_whole;
 use std::io::Write;
 
 /// The status of a program to which the system refused something.

@@ -7,8 +7,7 @@ ghost use Rattle.server_rules.specs.Status.{moment_text, row_line, state_head, s
 use crate::roster::{Ending, Roster};
 use crate::state_word::state_of;
 use s6_events::{At, Name};
-use s6_replay::push_row;
-use s6_script::push_number;
+use s6_script::{push_number, push_row};
 use scan_directory::{Remark, push_all_unread};
 use std::alloc::AllocError;
 use supervise_core::Row;

@@ -1,16 +1,15 @@
 //! The lines that are posted to connections, and the line that says where clients can connect. An
 //! empty line ends whatever is posted.
 ghost use Rattle.std.specs.Prelude.{◌≡◌, ◌++◌, ◌∷◌, [], OnOk, IfOk};
-ghost use Rattle.s6_replay.specs.Transcript.{match_line, release_line};
-ghost use Rattle.s6_replay.specs.ReplyText.{reply_text};
+ghost use Rattle.s6_script.specs.EffectLines.{match_line, release_line};
+ghost use Rattle.s6_script.specs.ReplyText.{reply_text};
 ghost use Rattle.server_rules.specs.Answers.{clock_text, following_text, recorded_text};
 ghost use Rattle.server_rules.specs.Recipients.{news_lines, reply_lines};
 ghost use Rattle.server_rules.specs.Sockets.{serving_text};
 
 use crate::letters::push_letter;
 use crate::todo::News;
-use s6_replay::{push_match, push_release, push_reply};
-use s6_script::push_number;
+use s6_script::{push_match, push_number, push_release, push_reply};
 use std::alloc::{AllocError, Global};
 use tree_core::Reply;
 

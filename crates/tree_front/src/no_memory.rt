@@ -1,11 +1,11 @@
 //! What is told where the system refused memory: a line for programs, and one for people.
 ghost use Rattle.std.specs.Prelude.{◌≡◌, ◌++◌, ◌⊎◌, IfOk, OnOk};
 ghost use Rattle.std.specs.Io.KnownBytes.{Appends};
-ghost use Rattle.s6_replay.specs.Lines.{AppendsFront};
+ghost use Rattle.s6_script.specs.Writing.{AppendsFront};
 ghost use Rattle.tree_front.specs.NoMemory.{no_memory_text};
 
 use arrayvec::CapacityError;
-use s6_replay::write_whole;
+use s6_script::write_whole;
 use std::io::Write;
 use tool_lines::FaultText;
 

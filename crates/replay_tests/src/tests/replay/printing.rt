@@ -2,7 +2,8 @@
 use super::fakes::FailingWriter;
 use super::same;
 use s6_events::{Letter, Mark, Name, Order, Sid, SubId, WaitId};
-use s6_replay::{WriteFault, write_effect};
+use s6_replay::write_effect;
+use s6_script::WriteFault;
 use std::alloc::{Allocator, Global};
 use std::process::Abort;
 use std::test::Fail;

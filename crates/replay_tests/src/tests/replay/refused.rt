@@ -4,11 +4,8 @@ use super::printing::reply_alone;
 use super::recorded::MIGRATIONS;
 use super::{Case, count_blocks, holds, words_of};
 use linked_list_allocator::LocalHeap;
-use s6_replay::{
-    Checked, Counts, ReplayFault, SpellFault, WriteFault, check, migrate, run, write_effect,
-    write_input,
-};
-use s6_script::{LineFault, parse_line};
+use s6_replay::{Checked, Counts, ReplayFault, check, migrate, run, write_effect};
+use s6_script::{LineFault, SpellFault, WriteFault, parse_line, write_input};
 use std::alloc::{Allocator, Global};
 use std::process::Abort;
 use std::test::Fail;

@@ -2,7 +2,7 @@ use Rattle.std.proofs.Common.{ap, subst}
 use Rattle.std.specs.declared.alloc.Global.{Global}
 use Rattle.tree_core.specs.declared.input.Input.{Input}
 use Rattle.tree_core.specs.Machine.{Outcome}
-use Rattle.s6_replay.specs.Recording.{FitsLine}
+use Rattle.s6_script.specs.Recording.{FitsLine}
 use Rattle.run_records.specs.declared.step_log.Stored.{Stored}
 use Rattle.run_records.specs.Stored.{IsStored}
 use Rattle.run_records.proofs.RunText.{same_lines, same_stop}

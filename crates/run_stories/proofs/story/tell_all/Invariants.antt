@@ -1,5 +1,5 @@
 use Rattle.std.proofs.Common.{List}
-use Rattle.s6_replay.specs.Script.{Recorded}
+use Rattle.s6_script.specs.Script.{Recorded}
 use Rattle.run_stories.proofs.Runs.{RunsTo}
 use Rattle.run_stories.proofs.story.tell_all.Given as goal
 

@@ -1,5 +1,5 @@
 use Rattle.s6_replay.specs.Turn.{text_in}
-use Rattle.s6_replay.specs.declared.version.Version.TheVariants.{Two}
+use Rattle.s6_script.specs.declared.version.Version.TheVariants.{Two}
 use Rattle.s6_replay.proofs.Places.{whole_step}
 use Rattle.s6_replay.proofs.checking.compare_step.Goals as goal
 

@@ -1,5 +1,5 @@
 use Rattle.std.proofs.Common.{List}
-use Rattle.s6_replay.specs.Script.{Recorded}
+use Rattle.s6_script.specs.Script.{Recorded}
 use Rattle.s6_replay.proofs.Migrations.{MigratesTo}
 use Rattle.s6_replay.proofs.migration.migrate_all.Given as goal
 

@@ -1,6 +1,6 @@
 use Rattle.std.proofs.Common.{◌≤◌, ◌-◌, take, length}
 use Rattle.std.specs.Io.KnownBytes.{Appends}
-use Rattle.s6_replay.proofs.block.write_whole.Given as goal
+use Rattle.s6_script.proofs.writing.write_whole.Given as goal
 
 abbrev pub invariant-loop-at : goal.invariant-loop-at
 invariant-loop-at g l = record {

@@ -1,10 +1,10 @@
-//! The lines of a transcript for what a step gave: events, orders, matches and releases.
+//! The lines for what a step gave: events, orders, matches and releases.
 ghost use Rattle.std.specs.Prelude.{◌≡◌, ◌++◌, ◌∷◌, [], codes, decimal, OnOk};
 ghost use Rattle.std.specs.List.{flat_map};
-ghost use Rattle.s6_replay.specs.Transcript.{event_line, order_line, match_line, release_line, hit_text, verdict_text};
+ghost use Rattle.s6_script.specs.EffectLines.{event_line, order_line, match_line, release_line, hit_text, verdict_text};
 
+use super::digits::{push_number, push_spaced};
 use s6_events::{Order, Sid};
-use s6_script::{push_number, push_spaced};
 use std::alloc::{AllocError, Allocator};
 use tree_core::{Event, Hit, Match, Release, Verdict};
 
@@ -18,7 +18,7 @@ fn push_event<A: Allocator>(text: &mut Vec<u8, A>, event: &Event) -> Result<(), 
     text.extend_from_slice(&[b' ', event.mark.letter().byte(), b'\n'])
 }
 
-// Adds a line for each event.
+/// Adds a line for each event, with its newline.
 pub fn push_events<A: Allocator>(text: &mut Vec<u8, A>, events: &[Event]) -> Result<(), AllocError>
     ensures { OnOk result (text.new.items ≡ text.old.items ++ flat_map event_line events.now) }
 {
@@ -74,7 +74,7 @@ fn push_order<A: Allocator>(text: &mut Vec<u8, A>, order: &Order) -> Result<(), 
     }
 }
 
-// Adds a line for each order.
+/// Adds a line for each order, with its newline.
 pub fn push_orders<A: Allocator>(text: &mut Vec<u8, A>, orders: &[Order]) -> Result<(), AllocError>
     ensures { OnOk result (text.new.items ≡ text.old.items ++ flat_map order_line orders.now) }
 {
@@ -111,7 +111,7 @@ pub fn push_match<A: Allocator>(text: &mut Vec<u8, A>, found: &Match) -> Result<
     push_hit(text, found.hit)
 }
 
-// Adds a line for each match.
+/// Adds a line for each match, with its newline.
 pub fn push_matches<A: Allocator>(
     text: &mut Vec<u8, A>,
     matched: &[Match],
@@ -150,7 +150,7 @@ pub fn push_release<A: Allocator>(
     text.extend_from_slice(verdict_bytes(release.verdict).as_bytes())
 }
 
-// Adds a line for each release.
+/// Adds a line for each release, with its newline.
 pub fn push_releases<A: Allocator>(
     text: &mut Vec<u8, A>,
     released: &[Release],

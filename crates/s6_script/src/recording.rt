@@ -2,15 +2,15 @@
 ghost use Rattle.std.specs.Prelude.{◌≡◌, ◌++◌, Err, OnOk};
 ghost use Rattle.std.specs.Io.KnownBytes.{Appends};
 ghost use Rattle.s6_script.specs.Spelling.{spelling};
-ghost use Rattle.s6_replay.specs.Lines.{AppendsFront};
-ghost use Rattle.s6_replay.specs.Recording.{FitsLine};
-ghost use Rattle.s6_replay.specs.Script.{input_line, reply_record};
-ghost use Rattle.s6_replay.specs.ReplyText.{reply_text};
+ghost use Rattle.s6_script.specs.Writing.{AppendsFront};
+ghost use Rattle.s6_script.specs.Recording.{FitsLine};
+ghost use Rattle.s6_script.specs.Script.{input_line, reply_record};
+ghost use Rattle.s6_script.specs.ReplyText.{reply_text};
 
-use super::block::{WriteFault, write_whole};
 use super::limits::INPUT_LINE_LIMIT;
+use super::plain_spelling::spell_plain;
 use super::reply_text::push_reply;
-use s6_script::spell_plain;
+use super::writing::{WriteFault, write_whole};
 use std::alloc::{AllocError, Allocator};
 use std::io::Write;
 use thiserror::Error;
@@ -32,7 +32,7 @@ pub enum SpellFault {
 }
 
 impl From<AllocError> for SpellFault {
-    ghost use Rattle.s6_replay.specs.declared.recording.SpellFault.TheVariants.{NoMemory};
+    ghost use Rattle.s6_script.specs.declared.recording.SpellFault.TheVariants.{NoMemory};
 
     ghost from_gives = { λ _ fault. fault ≡ NoMemory };
 
@@ -42,7 +42,7 @@ impl From<AllocError> for SpellFault {
 }
 
 impl From<WriteFault> for SpellFault {
-    ghost use Rattle.s6_replay.specs.Recording.{spell_fault_of};
+    ghost use Rattle.s6_script.specs.Recording.{spell_fault_of};
 
     ghost from_gives = { λ refused fault. fault ≡ spell_fault_of refused };
 

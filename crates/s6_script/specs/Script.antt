@@ -3,8 +3,8 @@ use Rattle.std.specs.Prelude.{◌≢◌, ℕ, ◌+◌, ◌≤◌, List, [], ◌�
 use Rattle.std.specs.List.{flat_map}
 use Rattle.tree_core.specs.declared.input.Input.{Input}
 use Rattle.s6_script.specs.Spelling.{IsSpelt, HasExpression, spelling}
-use Rattle.s6_replay.specs.declared.version.Version.{Version}
-use Rattle.s6_replay.specs.declared.version.Version.TheVariants.{One, Two}
+use Rattle.s6_script.specs.declared.version.Version.{Version}
+use Rattle.s6_script.specs.declared.version.Version.TheVariants.{One, Two}
 
 -- the head line of a script
 abbrev pub head_line : Version → List ℕ

@@ -1,10 +1,10 @@
 //! The text of a reply, as a transcript and a recorded script have it.
 ghost use Rattle.std.specs.Prelude.{◌≡◌, ◌++◌, OnOk};
 ghost use Rattle.std.specs.List.{flat_map};
-ghost use Rattle.s6_replay.specs.ReplyText.{reason, dropped_text, listed_text, truth_text, truth_field, number_field, exit_code, signal_number, row_text, end_text, death_text, failure_text, reply_text};
+ghost use Rattle.s6_script.specs.ReplyText.{reason, dropped_text, listed_text, truth_text, truth_field, number_field, exit_code, signal_number, row_text, end_text, death_text, failure_text, reply_text};
 
+use super::digits::{push_number, push_spaced};
 use s6_events::{At, Exit, Sid};
-use s6_script::{push_number, push_spaced};
 use std::alloc::{AllocError, Allocator};
 use supervise_core::Row;
 use tree_core::{Listed, Refusal, Reply};

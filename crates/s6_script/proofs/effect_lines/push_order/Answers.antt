@@ -1,7 +1,7 @@
 use Rattle.std.proofs.Common.{◌∙◌, ◌++◌, ◌∷◌, [], ap, sym, append_assoc}
 use Rattle.std.specs.Prelude.{codes, decimal}
-use Rattle.s6_replay.specs.Transcript.{order_line}
-use Rattle.s6_replay.proofs.effect_lines.push_order.Goals as goal
+use Rattle.s6_script.specs.EffectLines.{order_line}
+use Rattle.s6_script.proofs.effect_lines.push_order.Goals as goal
 
 pub returns-in_ok-push_run-in-KillFinish : goal.returns-in_ok-push_run-in-KillFinish
 returns-in_ok-push_run-in-KillFinish g c =

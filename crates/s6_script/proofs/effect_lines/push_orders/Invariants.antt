@@ -1,7 +1,7 @@
 use Rattle.std.proofs.Common.{◌≡◌, ◌++◌, take}
 use Rattle.std.specs.List.{flat_map}
-use Rattle.s6_replay.specs.Transcript.{order_line}
-use Rattle.s6_replay.proofs.effect_lines.push_orders.Given as goal
+use Rattle.s6_script.specs.EffectLines.{order_line}
+use Rattle.s6_script.proofs.effect_lines.push_orders.Given as goal
 
 abbrev pub invariant-loop-order : goal.invariant-loop-order
 invariant-loop-order g l = l.text.items ≡ l.fn.text.items ++ flat_map order_line (take l.order-index l.orders)

@@ -2,11 +2,11 @@
 use Rattle.std.specs.Prelude.{◌≤◌, length}
 use Rattle.tree_core.specs.declared.input.Input.{Input}
 use Rattle.s6_script.specs.Spelling.{IsSpelt}
-use Rattle.s6_replay.specs.Script.{input_line}
-use Rattle.s6_replay.specs.declared.block.WriteFault.{WriteFault}
-use Rattle.s6_replay.specs.declared.block.WriteFault.TheVariants as writes
-use Rattle.s6_replay.specs.declared.recording.SpellFault.{SpellFault}
-use Rattle.s6_replay.specs.declared.recording.SpellFault.TheVariants.{Write, NoMemory}
+use Rattle.s6_script.specs.Script.{input_line}
+use Rattle.s6_script.specs.declared.writing.WriteFault.{WriteFault}
+use Rattle.s6_script.specs.declared.writing.WriteFault.TheVariants as writes
+use Rattle.s6_script.specs.declared.recording.SpellFault.{SpellFault}
+use Rattle.s6_script.specs.declared.recording.SpellFault.TheVariants.{Write, NoMemory}
 
 -- the input has a spelling, and its line is within the limit
 pub record FitsLine {A : Type 0} (i : Input A) : Type 0 where
