@@ -11,9 +11,9 @@ use line_server::{ClientSlots, Server};
 use run_recorder::{RecordFile, Recorder, create_recorder};
 use s6_events::NoMemory;
 use scan_directory::{FoundServices, read_listing};
-use server_rules::{RowCache, ServeFault};
+use server_rules::ServeFault;
 use server_threads::{
-    Context, ScanTasks, ServerClock, Shared, SocketFile, attend, end_connections, listen,
+    Context, RowCache, ScanTasks, ServerClock, Shared, SocketFile, attend, end_connections, listen,
     new_callers, start_listener,
 };
 use servicedir::DirFault;

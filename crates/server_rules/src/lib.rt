@@ -6,6 +6,7 @@
 #![tactic(auto)]
 
 mod abandoned_socket;
+mod cached_rows;
 mod connection;
 mod following;
 mod full_services;
@@ -19,7 +20,6 @@ mod plans;
 mod recipients;
 mod requests;
 mod roster;
-mod row_cache;
 mod serve_fault;
 mod state_word;
 mod status_age;
@@ -30,6 +30,7 @@ mod todo;
 mod unwanted_starts;
 
 pub use abandoned_socket::{FileIdentity, says_abandoned};
+pub use cached_rows::CachedRows;
 pub use connection::Connection;
 pub use following::Following;
 pub use full_services::FullServices;
@@ -47,7 +48,6 @@ pub use plans::{Askers, Plans, Wanted};
 pub use recipients::{Line, Post, askers_of, hand_out};
 pub use requests::{Request, read_request};
 pub use roster::{Ending, Member, Roster};
-pub use row_cache::RowCache;
 pub use serve_fault::{ServeFault, tell_serve_fault};
 pub use state_word::{StateWord, state_of};
 pub use status_age::is_recent;

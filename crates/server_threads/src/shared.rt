@@ -1,10 +1,11 @@
 //! What the threads of a running tree share.
 use crate::caller::Caller;
 use crate::clock::ServerClock;
+use crate::row_cache::RowCache;
 use crate::scan_tasks::ScanTasks;
 use child_runner::{Bell, LaneLink, Unwanted};
 use line_server::{AfterLine, Answers, Mailbox};
-use server_rules::{OwnAnswer, Request, RowCache, Subject, client_actor, read_request, take_down};
+use server_rules::{OwnAnswer, Request, Subject, client_actor, read_request, take_down};
 use std::alloc::Global;
 use std::sync::{Arc, Wait};
 use std::time::Clock;

@@ -9,10 +9,10 @@ use line_server::{ClientSlots, Server};
 use order_lanes::Backend;
 use run_recorder::{RecordFile, RecordWriter, Recorder, create_recorder};
 use scan_directory::{FoundServices, read_listing};
-use server_rules::{RowCache, ServeFault, serving_line};
+use server_rules::{ServeFault, serving_line};
 use server_threads::{
-    NotedEnd, ScanTasks, ServerClock, Shared, SocketFile, attend, end_connections, listen,
-    new_callers, start_listener,
+    NotedEnd, RowCache, ScanTasks, ServerClock, Shared, SocketFile, attend, end_connections,
+    listen, new_callers, start_listener,
 };
 use std::alloc::Global;
 use std::fs::File;
