@@ -1,5 +1,5 @@
-//! Calls of a directory by itself, for whoever embeds this crate alone: no program of this tree makes
-//! them.
+//! Calls of a directory by itself, for whoever embeds this crate alone: no program of this tree
+//! makes them.
 ghost use Rattle.std.specs.Prelude.{◌≡◌, ◌<◌, ◌++◌, ◌∷◌, [], List, IfOk, OnOk, OnErr, IfErr, All, map, ◌+◌};
 ghost use Rattle.event_directory.specs.Sending.{TextSubscription, HaveHeard, after_letter, hits_from, after_letters, hits_from_letters, Sends, Prepares, new_kept_subscription, new_text_subscription};
 ghost use Rattle.event_directory.specs.Stored.{greatest_offset};

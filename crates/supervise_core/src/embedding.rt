@@ -1,5 +1,5 @@
-//! Changes of a service by itself, for whoever embeds this crate alone: no program of this tree calls
-//! them. Each has the same rule behind it as the tree's own change.
+//! Changes of a service by itself, for whoever embeds this crate alone: no program of this tree
+//! calls them. Each follows the same rule as the change that the tree makes.
 ghost use Rattle.std.specs.Prelude.{◌≡◌, ◌+◌, ◌<◌, ◌^◌, ◌++◌, List};
 ghost use Rattle.s6_events.specs.declared.moment.Moment.{Moment};
 ghost use Rattle.supervise_core.specs.ChartState.{no_move};

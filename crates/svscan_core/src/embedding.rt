@@ -1,5 +1,5 @@
-//! Changes of the table of services by themselves, for whoever embeds this crate alone: no program of
-//! this tree calls them.
+//! Changes of the table of services by themselves, for whoever embeds this crate alone: no program
+//! of this tree calls them.
 ghost use Rattle.std.specs.Prelude.{◌≡◌, ◌==◌, ◌+◌, ◌<◌, ◌^◌, slice_get, is_some, option_map, IfSome, IfNone, IfOk, OnOk, OnErr, false};
 ghost use Rattle.std.specs.List.{list_any};
 ghost use Rattle.svscan_core.specs.Asked.{work_asked, IsOrderly};

@@ -1,5 +1,5 @@
-//! Changes of the waiters by themselves, for whoever embeds this crate alone: no program of this tree
-//! calls them.
+//! Changes of the waiters by themselves, for whoever embeds this crate alone: no program of this
+//! tree calls them.
 ghost use Rattle.std.specs.Prelude.{◌≡◌, ◌<◌, ◌+◌, ◌*◌, ◌^◌, [], ◌∷◌, IfOk, IfErr, OnOk, OnErr, None, is_some, length};
 ghost use Rattle.std.specs.List.{filter_map};
 ghost use Rattle.wait_conditions.specs.Kept.{release_seen};
