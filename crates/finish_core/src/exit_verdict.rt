@@ -1,4 +1,5 @@
-//! What the exit of `finish` says: 125 is a permanent failure.
+//! What the exit of `finish` says: 125 is a permanent failure. What becomes of the service then is
+//! in `reports.rt` of supervise_core.
 ghost use Rattle.std.specs.Prelude.{◌≡◌};
 ghost use Rattle.finish_core.specs.ExitVerdict.{verdict_of};
 

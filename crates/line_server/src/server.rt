@@ -190,8 +190,8 @@ impl<W: Answers> Server<W> {
         }
     }
 
-    // By slots, whether the connection is not to make way: something may still be told to it, or
-    // another slot than the last one is of no use.
+    // By slot, whether its connection is needed, and so can't be told to make way: something may
+    // still be told to it, or another slot than the last one is of no use.
     fn needed_slots<R: Wait>(&self, rt: &R, is_for_last: bool) -> [bool; SLOT_COUNT] {
         let mut needed = [true; SLOT_COUNT];
         for (slot, is_needed) in needed.iter_mut().enumerate() {

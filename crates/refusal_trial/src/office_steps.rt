@@ -192,7 +192,8 @@ pub fn tell_rows(alloc: Global, rows: &[Row], text: &mut Text) -> Result<(), NoM
     Ok(())
 }
 
-// Closes the office, which takes no memory but for the list of what its seats leave.
+// Closes the office, which takes no memory but for the list of what its two seats leave. Where that
+// is refused, it is asked for once more, as all is in this trial.
 fn close<B: Backend, C: Channels + Lanes, D: Board<C>, R: Wait>(
     rt: &R,
     alloc: Global,

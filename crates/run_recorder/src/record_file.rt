@@ -10,8 +10,8 @@ use std::rt::Files;
 /// The rights of a record: its owner's alone.
 const RECORD_MODE: u32 = 0o600;
 
-/// How many bytes are written at the start, to see whether the disk has room, in bytes: a block of
-/// most file systems.
+/// What is written to a new record, to see whether the disk has room, and then cut off again: as
+/// many bytes as a block of most file systems has.
 const PROBE: [u8; 4_096] = [0; 4_096];
 
 /// The most bytes that are read of what the system tells of its limits.

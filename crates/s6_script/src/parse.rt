@@ -346,7 +346,7 @@ fn read_act<A: Allocator + Copy>(alloc: A, words: &mut Words<'_>) -> Result<Unbu
 
 /// The act that a text spells. The text may be of any length. A pattern takes its memory from
 /// `patterns`, and all else from `alloc`. The pattern of an act is one that the grammar of `regex`
-/// reads; it is built only where the text spells an act otherwise. `Line` where the text spells no
+/// reads; it is built only where all else of the text is right. `Line` where the text spells no
 /// act. `Pattern` where it spells a subscription, but `regex` refuses its pattern, and not for want
 /// of memory. `NoMemory` where memory is refused. On error nothing is kept.
 pub fn parse_act<A: Allocator + Copy>(

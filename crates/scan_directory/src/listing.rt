@@ -281,8 +281,8 @@ fn read_service<R: Files, E: Write>(
     }
 }
 
-// Tells on `errors` by one line why the directory of the service of this name can't be used. An
-// error where memory for the line is refused.
+// Tells on `errors` by one line why the directory of the service of this name can't be used; a line
+// that can't be written is lost. An error where memory for the line is refused.
 fn tell_fault<E: Write>(
     alloc: Global,
     name: &str,

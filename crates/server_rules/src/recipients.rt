@@ -277,6 +277,7 @@ fn add_post(slot: usize, todo: Todo, news: Option<News>, posts: &mut Vec<Post>)
     let line = match (todo, news) {
         (Todo::Give(answer), _) => Line::Answer(answer),
         (Todo::Tell, Some(news)) => Line::News(news),
+        // No line: the connection has nothing to tell, or waits for more.
         _ => return,
     };
     posts.push_reserved(Post { slot, line });

@@ -1,4 +1,5 @@
-//! The control letters: what each does in each phase.
+//! The control letters: what each does in each phase. Which letters an option of `svc` sends is in
+//! `svc.rt` of svc_commands: `-o` sends `u` and `O`.
 ghost use Rattle.std.specs.Prelude.{◌≡◌, ◌+◌, ◌<◌, ◌≤◌, ◌^◌, ◌*◌, length};
 ghost use Rattle.supervise_core.specs.ControlLetters.{letter_move, up_move, down_move, signal_move, as_unwanted, control_move};
 ghost use Rattle.supervise_core.specs.MatchesMove.{AppendsMove};

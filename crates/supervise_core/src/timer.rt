@@ -1,4 +1,4 @@
-//! The timer of a service: what it does in each phase.
+//! The timer of a service: what it does in each phase. To which moment it is set is in `moves.rt`.
 ghost use Rattle.std.specs.Prelude.{◌≡◌, ◌+◌, ◌<◌, ◌≤◌, ◌^◌, length};
 ghost use Rattle.supervise_core.specs.Timer.{fire_move, timer_rule, is_due};
 ghost use Rattle.supervise_core.specs.MatchesMove.{AppendsMove};

@@ -1,5 +1,5 @@
 //! The line of `svstat`: fields of a `row` reply, which is the server's line about the status of a
-//! service.
+//! service. How each field is spelled is in `reply_text.rt` of s6_script.
 ghost use Rattle.std.specs.Prelude.{◌≡◌, ◌∷◌, ◌++◌, IfOk, OnOk};
 ghost use Rattle.std.specs.List.{flat_map};
 ghost use Rattle.tool_lines.specs.StatusLine.{field_in, place_of, status_line};

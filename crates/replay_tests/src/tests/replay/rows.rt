@@ -1,4 +1,8 @@
-//! The worked rows: scripts with what a replay answers and the whole transcript.
+//! The worked rows: scripts with what a replay answers and the whole transcript. A line of a script
+//! is an input: its moment in milliseconds, its actor and its act, such as `death 1 1 code 1`: the
+//! first run of service 1 died with exit code 1. `>` is what the replay answers. Then comes the
+//! transcript: a line that begins with a number is the reply of that step, `e` a mark and `o` an
+//! order.
 use super::{Case, check_replayed, replay_in_memory};
 use std::alloc::Global;
 use std::process::Abort;
