@@ -284,23 +284,17 @@ fn add_start(rt: &impl Abort, standing: &mut ServiceState, pid: u32, out: &mut O
     );
 }
 
-// A letter is added to what is there.
+// A letter is added to what is there: no order, so that there is room for those of 63 letters.
 fn add_letter(rt: &impl Abort, chart: ChartState, letter: ControlLetter, out: &mut Out) {
     let mut chart = chart;
     let mut letters = Letters::new();
     let added = letters.try_push(letter).is_ok();
-    assert!(rt;
-        added
-            && chart.generation < 9
-            && out.events.len() < 4
-            && out.orders.len() < 9
-            && letters.len() < 9
-    );
+    assert!(rt; added && chart.generation < 9 && out.events.len() < 4 && out.orders.len() < 1);
     chart.change_onto(&Change::Control(letters), at(rt, 6), out);
 }
 
-// A start, a stale one and a letter are added to what the beginning of another service gave: an
-// order, and then one more.
+// A start and a stale one are added to what the beginning of another service gave, and then a
+// letter to what is empty again.
 fn add_changes(
     rt: &impl Abort,
     begun: &[Order],
@@ -314,10 +308,10 @@ fn add_changes(
     gives(rt, out, 5, (&marks, begun, false));
     add_start(rt, standing, 71, out);
     gives(rt, out, 5, (&marks, begun, true));
-    add_letter(rt, standing.chart(), ControlLetter::Hangup, out);
-    gives(rt, out, 6, (&marks, told, true));
     out.clear();
-    gives(rt, out, 7, (&[], &[], false));
+    gives(rt, out, 6, (&[], &[], false));
+    add_letter(rt, standing.chart(), ControlLetter::Hangup, out);
+    gives(rt, out, 7, (&[], told, false));
 }
 
 // The order to start a service for the first time.
@@ -354,7 +348,7 @@ fn a_change_is_added_to_what_is_there(rt: HostRuntime) {
     let (mut service, _) = begin_plain(&rt, rt.alloc(), Sid(2), log);
     let mut standing = *service.standing();
     let begun = [first_run(web)];
-    let told = [first_run(web), Order::Signal(Sid(2), 1, 1)];
+    let told = [Order::Signal(Sid(2), 1, 1)];
     add_changes(&rt, &begun, &told, &mut standing, &mut out);
     take_over(&rt, rt.alloc(), &mut service, standing);
 }
