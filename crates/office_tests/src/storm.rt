@@ -65,7 +65,11 @@ pub fn storm<
     let noted = &marks;
     thread::scope(thread::scope_env(), rt, |scope| {
         start_seats(scope, rt, alloc, seats, noted);
-        note(noted, start_driver(scope, rt, office, noted));
+        let is_started = start_driver(scope, rt, office, noted);
+        note(noted, is_started);
+        if !is_started {
+            noted.fetch_add(DONE, Ordering::SeqCst);
+        }
         start_readers(scope, rt, readers, noted);
     });
     !has_fault(&marks)

@@ -39,8 +39,9 @@ pub struct Client<'a, R> {
     bytes: TalkText,
     // Whether it follows the letters of all services.
     is_following: bool,
-    /// The letters, matches and releases that came, in plain lines.
+    /// The letters that came, in plain lines.
     pub letters: TalkText,
+    /// The matches and releases that came, in plain lines.
     pub others: TalkText,
     /// Whether a connection ended on which news may have been lost.
     pub has_lost_news: bool,
@@ -184,8 +185,8 @@ impl<'a, R: Net> Client<'a, R> {
         message
     }
 
-    // Keeps the message, if it is news.
-    fn is_kept(&mut self, message: &TalkText) -> bool {
+    // Keeps the message, if it is news. Whether it is.
+    fn keep_news(&mut self, message: &TalkText) -> bool {
         let text = text_of(message);
         if text.starts_with("e ") {
             write_all_plain(text, &mut self.letters);
@@ -201,7 +202,7 @@ impl<'a, R: Net> Client<'a, R> {
     pub fn reply(&mut self) -> Result<TalkText, TalkOver> {
         for _ in 0..NEWS_LIMIT {
             let message = self.message()?;
-            if !self.is_kept(&message) {
+            if !self.keep_news(&message) {
                 self.answers = self.answers.saturating_add(1);
                 return Ok(message);
             }
@@ -216,7 +217,7 @@ impl<'a, R: Net> Client<'a, R> {
                 return Ok(());
             }
             let message = self.message()?;
-            if !self.is_kept(&message) {
+            if !self.keep_news(&message) {
                 return Err(TalkOver);
             }
         }

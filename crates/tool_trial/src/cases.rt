@@ -1,4 +1,4 @@
-//! The cases of the trial.
+//! The cases of the trial. What each is to print stands in the file `stdout` of this crate.
 use crate::counted::CountedText;
 use crate::table::TableServer;
 use crate::whole_requests::come_whole;

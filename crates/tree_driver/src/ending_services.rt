@@ -13,7 +13,8 @@ use std::sync::Wait;
 use std::time::Clock;
 use tree_core::{Act, ScanOrder};
 
-/// How long services may take to end before they get SIGKILL, in milliseconds.
+/// How long services may take to end, in milliseconds. Those that still live then get SIGKILL, once
+/// the threads have ended: by `Keeper::end` in `keeper.rt` of child_runner.
 const END_WAIT: u64 = 10_000;
 
 /// Tells all services to end, as `svscanctl -t` does, and goes on with their reports, timers and
