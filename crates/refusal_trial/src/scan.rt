@@ -21,10 +21,12 @@ const FILES: [(&str, &str); 8] = [
     ("down-signal", "SIGHUP\n"),
 ];
 
-/// What is told of the directory, in any order.
-const TOLD: [&str; 2] = [
+/// What is told of the directory, in any order. Nobody may execute the files of `web`.
+const TOLD: [&str; 4] = [
     "svscan: empty NoRun\n",
     "svscan: BadName\nsvscan: 'no name' is no name of a service\n",
+    "svscan: web RunMode\n",
+    "svscan: web FinishMode\n",
 ];
 
 /// Makes a scan directory: a service with all its files, one that has no `run`, one that is hidden,
