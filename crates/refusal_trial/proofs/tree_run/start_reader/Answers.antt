@@ -1,5 +1,4 @@
 use Rattle.std.proofs.Common.{[], ◌∷◌}
-use Rattle.std.proofs.Crossing.{crosses}
 use denote.Exit.{no}
 use denote.Param.Send.{param_send, arg_send, shr_send}
 use Rattle.tree_core.proofs.Crosses.{closure_send}
