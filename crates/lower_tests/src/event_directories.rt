@@ -293,8 +293,8 @@ fn gives<A: Allocator + Copy>(
     Ok(is_answered && is_matched)
 }
 
-// A step of this change alone, which gives no match. `offered` is the pattern of a subscription that
-// the change makes, and whether it repeats.
+// A step of this change alone, which gives no match. `offered` is the pattern of the subscription
+// that it makes, and whether it repeats.
 fn answers<A: Allocator + Copy>(
     directories: &mut Directories<AtLeast, A>,
     change: &DirectoryChange<'_>,

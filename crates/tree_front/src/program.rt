@@ -172,8 +172,8 @@ fn begin_tree<
 
 /// Ends a tree that was run at this place. Its services had 10,000 ms to end (`ending_services.rt`
 /// of tree_driver), and its threads have ended (`serve.rt` of tree_server). Here the services that
-/// still live are killed, it is told why the tree did not run to its end, and all notes have at most
-/// 1,000 ms to be written. The exit status: 0, or 111 where it did not run to its end.
+/// still live are killed, it is told why the tree did not run to its end, and the notes have at
+/// most 1,000 ms to be written. The exit status: 0, or 111 where it did not run to its end.
 pub fn end_program<R: Processes + Files + Threads + Wait + Clock + Drop>(
     rt: &R,
     place: &TreePlace,
