@@ -29,7 +29,8 @@ import kept, rtlib
 
 # The memory that a check may want, in kilobytes.
 CHECK_MEMORY = 3_000_000
-# The most wrong bodies that are tried together.
+# The most wrong bodies that are tried together. A round costs 5 to 9 seconds beside what its functions take, and one of 18 wants more than 2 GB. Only
+# two crates have more than 12 functions with wrong bodies: a greater number would save two rounds of 78, and make the last ones long.
 TOGETHER = 12
 # The promises of the whole, by the names of the wrong bodies that break them.
 PROMISES = """
