@@ -1,7 +1,7 @@
 #!/usr/bin/env python3
 """Tries the wrong bodies: the prover must refuse each function that one of them is put into.
 
-    wrong_bodies.py [--minutes N] [CRATE | CRATE/NAME]..
+    wrong_bodies.py [--minutes N] [--anew] [CRATE | CRATE/NAME]..
 
 Without names, those that rt ci passes by: crates/CRATE/wrong-bodies/NAME.body. One has lines 'file:', 'old:' and 'new:', as rt must-fail reads
 them in crates/CRATE/must-fail/NAME.edit, and a line 'only:' with the function whose promise it breaks. With names, the edits that have such a line are
@@ -11,8 +11,11 @@ libraries that rt ci, or rt lib in each crate, left in out/rlib.
 What is proved of a function rests on what others promise, and not on their bodies. So wrong bodies of different functions are tried
 together, and alone where the change isn't in one body. One is refused where the prover reads it and finds no proof of that function.
 
-With --minutes none is begun later than so many minutes from now. Those that break a promise of PROMISES come first. A line names each that was left out,
-and the last line says how many these are.
+One that was refused is kept on this machine (tools/kept.py), and passed by while all that its trial read is as it was: its own file, its crate's
+src, specs and proofs and line of crates.txt, the built libraries below, the kit and this script. With --anew all are tried.
+
+With --minutes none is begun later than so many minutes from now. Those that break a promise of PROMISES come first. A line names each that was
+left out. The last line says how many were tried, kept, not refused and left out.
 
 The status is 0 where each that was tried is refused and none of PROMISES was left out, else 1, and 130 after Ctrl-C. No process and no copy is left
 afterwards.
@@ -22,11 +25,12 @@ import argparse, concurrent.futures, glob, os, random, re, shutil, signal, subpr
 # The toolchain's own words for a check of a crate.
 sys.path.insert(0, os.path.dirname(os.path.realpath(shutil.which("rt") or "rt")))
 sys.dont_write_bytecode = True
-import rtlib
+import kept, rtlib
 
 # The memory that a check may want, in kilobytes.
 CHECK_MEMORY = 3_000_000
-# The most wrong bodies that are tried together.
+# The most wrong bodies that are tried together. A round costs 5 to 9 seconds beside what its functions take, and one of 18 wants more than 2 GB. Only
+# two crates have more than 12 functions with wrong bodies: a greater number would save two rounds of 78, and make the last ones long.
 TOGETHER = 12
 # The promises of the whole, by the names of the wrong bodies that break them.
 PROMISES = """
@@ -43,7 +47,7 @@ class WrongBody:
     """A change of a crate, and the function whose promise it breaks."""
 
     def __init__(self, path):
-        self.crate = path.split("/")[1]
+        self.path, self.crate = path, path.split("/")[1]
         self.label = "%s/%s" % (self.crate, os.path.basename(path).split(".")[0])
         self.file, self.only, self.changes = "", "", []
         for line in open(path).read().splitlines():
@@ -62,6 +66,10 @@ class WrongBody:
     def is_one_body(self):
         """Whether nothing is changed but the body of one function."""
         return self.file.startswith("src/") and len(self.changes) == 1 and not re.match(r" *(pub )?(const|type) ", self.changes[0][0])
+
+    def sum(self, crate_sum):
+        """The sum of all that its trial reads, by that of its crate."""
+        return kept.sum_of([crate_sum], [self.path])
 
     def made_in(self, text):
         """The text with the change, or None where what it changes does not stand there just once."""
@@ -123,8 +131,15 @@ class Copy:
                 out.write(text)
 
 
+def sum_of_crate(crate):
+    """The sum of all that a check of this crate reads. Of a library that is its file format, which holds the sum of the others."""
+    sources = [os.path.join(os.path.relpath(crate.folder), part) for part in rtlib.PARTS]
+    libraries = [os.path.join(os.path.relpath(it.rlib), "format") for it in crate.below()]
+    return kept.sum_of([repr((crate.said, crate.is_program)), kept.kit_sum()], ["tools/wrong_bodies.py", *sources, *libraries])
+
+
 def try_together(copy, bodies):
-    """Tries some wrong bodies of one crate together, and those that are not refused each alone. How many are not refused at last."""
+    """Tries some wrong bodies of one crate together, and those that are not refused each alone. Which are not refused at last."""
     said = copy.check_with(bodies)
     # A text that the compiler refuses says nothing of any function.
     is_read = not re.search(r"^error|\berror\[", said, re.M)
@@ -137,8 +152,22 @@ def try_together(copy, bodies):
             print("wrong body %s: refused, %s: %s" % (body.label, body.only, goal), flush=True)
     if left and len(bodies) == 1:
         print("wrong body %s: NOT REFUSED, %s:\n%s" % (left[0].label, left[0].only, "\n".join(said.splitlines()[-25:])), flush=True)
-        return 1
-    return sum(try_together(copy, [body]) for body in left)
+        return left
+    return [it for body in left for it in try_together(copy, [body])]
+
+
+def try_round(bodies, crate, folder, store):
+    """Tries some wrong bodies in a copy of their crate, and keeps those that are refused. Which are not."""
+    before = sum_of_crate(crate)
+    names = {body: body.sum(before) for body in bodies}
+    with tempfile.TemporaryDirectory(dir=folder) as place:
+        left = try_together(Copy(crate, place), bodies)
+    after = sum_of_crate(crate)
+    for body in bodies:
+        # Where files changed meanwhile, nobody knows what was read.
+        if body not in left and body.sum(after) == names[body]:
+            store.keep(names[body], "wrong body %s: refused\n" % body.label)
+    return left
 
 
 def in_rounds(bodies):
@@ -155,23 +184,22 @@ def in_rounds(bodies):
     return sorted(rounds, key=len, reverse=True)
 
 
-def try_all(bodies, crates, lanes, folder, end):
-    """Tries wrong bodies, so many rounds at a time, and begins none after the moment `end`. How many are not refused, and which were left out."""
+def try_all(bodies, crates, folder, store, end):
+    """Tries wrong bodies, so many rounds at a time, and begins none after the moment `end`. Which are not refused, and which were left out."""
 
-    def try_round(bodies):
+    def try_in_time(bodies):
         if time.monotonic() > end:
-            return 0, bodies
-        with tempfile.TemporaryDirectory(dir=folder) as place:
-            return try_together(Copy(crates[bodies[0].crate], place), bodies), []
+            return [], bodies
+        return try_round(bodies, crates[bodies[0].crate], folder, store), []
 
     rounds = in_rounds(bodies)
     if end != float("inf"):
         # Which are left out is not always the same.
         random.shuffle(rounds)
         rounds.sort(key=lambda bodies: not any(body.breaks_a_promise() for body in bodies))
-    with concurrent.futures.ThreadPoolExecutor(lanes) as pool:
-        ends = list(pool.map(try_round, rounds))
-    return sum(found for found, _ in ends), [body for _, bodies in ends for body in bodies]
+    with concurrent.futures.ThreadPoolExecutor(usable_processors()) as pool:
+        ends = list(pool.map(try_in_time, rounds))
+    return [body for left, _ in ends for body in left], [body for _, late in ends for body in late]
 
 
 def usable_processors():
@@ -189,20 +217,37 @@ def wanted(names):
     return [body for body in bodies if body.only and (not names or body.crate in names or body.label in names)]
 
 
-def main():
-    os.chdir(os.path.join(os.path.dirname(os.path.abspath(__file__)), ".."))
-    parser = argparse.ArgumentParser(usage="wrong_bodies.py [--minutes N] [CRATE | CRATE/NAME]..")
+def to_try(bodies, crates, store):
+    """The wrong bodies of which it isn't kept that they were refused; a line for each crate that has others."""
+    sums = {name: sum_of_crate(crates[name]) for name in sorted({body.crate for body in bodies})}
+    left = [body for body in bodies if store.found(body.sum(sums[body.crate])) is None]
+    for crate in sums:
+        counts = [sum(body.crate == crate for body in some) for some in (bodies, left)]
+        if counts[0] > counts[1]:
+            print("kept: wrong bodies of %s: %d of %d were refused before" % (crate, counts[0] - counts[1], counts[0]), flush=True)
+    return left
+
+
+def read_words():
+    """What is asked for, and the wrong bodies that are meant."""
+    parser = argparse.ArgumentParser(usage="wrong_bodies.py [--minutes N] [--anew] [CRATE | CRATE/NAME]..")
     parser.add_argument("--minutes", type=float, default=float("inf"))
+    parser.add_argument("--anew", action="store_true")
     parser.add_argument("names", nargs="*")
     words = parser.parse_args()
-    end = time.monotonic() + words.minutes * 60
     strays = glob.glob("crates/*/must-fail/*.md")
     if strays:
         sys.exit("wrong_bodies: a body that is tried by function is wrong-bodies/NAME.body, and not %s" % " ".join(sorted(strays)))
-    bodies = wanted(words.names)
-    if not bodies:
-        sys.exit("wrong_bodies: no such crate, and no such wrong body")
+    return words, wanted(words.names) or sys.exit("wrong_bodies: no such crate, and no such wrong body")
+
+
+def main():
+    os.chdir(os.path.join(os.path.dirname(os.path.abspath(__file__)), ".."))
+    words, bodies = read_words()
+    end = time.monotonic() + words.minutes * 60
     crates = {crate.name: crate for crate in rtlib.crates_below(os.getcwd())}
+    store = kept.Kept(words.anew)
+    left = to_try(bodies, crates, store)
     with tempfile.TemporaryDirectory() as folder:
 
         def leave(*_):
@@ -213,12 +258,12 @@ def main():
 
         for number in (signal.SIGINT, signal.SIGTERM, signal.SIGHUP):
             signal.signal(number, leave)
-        found, left_out = try_all(bodies, crates, usable_processors(), folder, end)
+        not_refused, left_out = try_all(left, crates, folder, store, end)
     for body in sorted(left_out, key=lambda body: body.label):
         print("wrong body %s: left out%s" % (body.label, ", and it breaks a promise of the whole" * body.breaks_a_promise()))
-    late = ", %d left out for want of time" % len(left_out) if left_out else ""
-    print("%d wrong bodies tried, %d not refused%s" % (len(bodies) - len(left_out), found, late))
-    return 1 if found or any(body.breaks_a_promise() for body in left_out) else 0
+    counts = len(left) - len(left_out), len(bodies) - len(left), len(not_refused), len(left_out)
+    print("%d wrong bodies tried, %d kept, %d not refused, %d left out for want of time" % counts)
+    return 1 if not_refused or any(body.breaks_a_promise() for body in left_out) else 0
 
 
 sys.exit(main())

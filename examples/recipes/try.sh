@@ -1,7 +1,7 @@
 #!/bin/sh
 # try.sh PROGRAM: runs each recipe of docs/RECIPES.md on a tree of its own, and prints a line for each: `ok NAME`, `failed NAME: WHY`, or
-# `skipped NAME: WHY` where the system lacks what it needs. Status 0 if none failed. All that is written lies in a folder of its own below
-# /tmp, which is gone afterwards, and only trees that it started are told to end.
+# `skipped NAME: WHY` where the system lacks what it needs, and last how many. Status 0 if none failed. All that is written lies in a folder of
+# its own below /tmp, which is gone afterwards, and only trees that it started are told to end.
 [ $# -eq 1 ] && [ -x "$1" ] || {
     echo "usage: try.sh PROGRAM" >&2
     exit 100
@@ -15,7 +15,9 @@ export S6_TREE GRACE
 entry=
 # What ends it where a trial stops half way.
 end_signal=TERM
-status=0
+held=0
+failed=0
+skipped=
 trap 'stop_tree; rm -rf "$folder"' EXIT
 trap 'exit 130' INT TERM
 
@@ -65,14 +67,18 @@ recipe() {
     shift
     if "$@" >"$folder/why" 2>&1; then
         echo "ok $what"
+        held=$((held + 1))
     else
         echo "failed $what: $(tr '\n' ' ' <"$folder/why")"
-        status=1
+        failed=$((failed + 1))
     fi
     stop_tree
 }
 
-skip() { echo "skipped $1: $2"; }
+skip() {
+    echo "skipped $1: $2"
+    skipped="$skipped $1"
+}
 has() { command -v "$1" >/dev/null; }
 
 # try_logged FILES [WORDS]. Each trial of logs: a line is there, behind these words, the daemon dies and the next one's line is there, the reader dies
@@ -353,4 +359,5 @@ try_from_s6() {
     is "$(printf '%s\n' "$found" | grep -c 'works as it is')" 1 || { echo "more than one works as it is"; return 1; }
 }
 recipe from-s6 try_from_s6
-exit "$status"
+echo "recipes: $held held, $failed failed, skipped:${skipped:- none}"
+[ "$failed" = 0 ]
