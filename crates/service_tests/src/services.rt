@@ -311,7 +311,7 @@ fn add_changes(
     out.clear();
     gives(rt, out, 6, (&[], &[], false));
     add_letter(rt, standing.chart(), ControlLetter::Hangup, out);
-    gives(rt, out, 7, (&[], told, false));
+    gives(rt, out, 7, (&marks[..0], told, false));
 }
 
 // The order to start a service for the first time.
