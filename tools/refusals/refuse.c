@@ -6,6 +6,7 @@
 #include <fcntl.h>
 #include <stdio.h>
 #include <stdlib.h>
+#include <sys/syscall.h>
 #include <unistd.h>
 
 static long count, refused = -1;
@@ -56,7 +57,14 @@ __attribute__((destructor)) static void tell(void) {
     if (file >= 0) {
         int length = snprintf(text, sizeof text, "%ld\n", count);
         if (write(file, text, length) != length)
-            _exit(3);
+            syscall(SYS_exit_group, 3);
         close(file);
     }
+}
+
+/* A program that has threads ends by this, and so runs no destructor. */
+void _exit(int status) {
+    tell();
+    syscall(SYS_exit_group, status);
+    __builtin_unreachable();
 }

@@ -31,7 +31,8 @@ try_each() {
 }
 
 run 0 first && mv "$folder/first.said" "$folder/wanted" || { echo "refusals: the trial failed with ample memory"; exit 1; }
-growths=$(cat "$folder/first.count")
+growths=$(cat "$folder/first.count" 2>/dev/null)
+[ "${growths:-0}" -gt 0 ] || { echo "refusals: no growth was counted"; exit 1; }
 lanes=$(nproc)
 for lane in $(seq "$lanes"); do
     try_each "$lane" >"$folder/$lane.wrong" 2>"$folder/$lane.errors" &
