@@ -223,8 +223,8 @@ where
         steps: 0,
     });
     let talked = thread::scope(thread::scope_env(), rt, |scope| {
-        if start_all(scope, rt, &server, workers, driver, &end, &notes)
-            && start_reader(scope, reader, server.answers(), places, &notes)
+        if start_reader(scope, reader, server.answers(), places, &notes)
+            && start_all(scope, rt, &server, workers, driver, &end, &notes)
         {
             talk(rt, alloc, places, text)
         } else {
@@ -246,7 +246,7 @@ where
     }
 }
 
-// Starts all threads, the driver last. Whether all run.
+// Starts all other threads. The driver is the last: it ends with the tree alone. Whether all run.
 fn start_all<'s, S, R: Threads + Wait + Clock + Copy + Sync + Send + Drop>(
     scope: &Scope<'s, S>,
     rt: &'s R,
