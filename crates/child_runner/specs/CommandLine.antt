@@ -55,9 +55,9 @@ finish_line directory name code signal = record {
 -- a shell reads who is the parent of the process, where /proc tells of its own numbers, and goes on only if it is this shell's own; where /proc
 -- hides processes, as that of number 1, it goes on also where it can't read that
 abbrev pub kill_script : List ℕ
-kill_script = codes "exec 2>/dev/null; p=; read -r p s </proc/self/stat; [ \"$p\" != $$ ] || { s=; "
-    ++ codes "while read -r l; do s=$s$l; done </proc/$1/stat; set -- \"$1\" ${s##*) }; [ \"$3\" = $PPID ] || "
-    ++ codes "{ [ -z \"$3\" ] && [ ! -r /proc/1/stat ]; }; } && kill -$0 $1"
+kill_script = codes "exec 2>/dev/null; p=; [ ! /proc/self -ef /proc/$$ ] || { while read -r l p; do "
+    ++ codes "case $l in PPid:) break ;; esac; done </proc/$1/status; [ \"$p\" = $PPID ] || "
+    ++ codes "{ [ -z \"$p\" ] && [ ! -r /proc/1/status ]; }; } && kill -$0 $1"
 
 -- `kill -SIGNAL PID`, by that shell
 abbrev pub kill_line : ℕ → ℕ → CommandLine

@@ -21,16 +21,15 @@ const START_TRAP: &str = "trap 'printf \"svscan: %s can\\047t be started\\n\" \"
 // The script of a shell that sends a signal, in three parts. Where `/proc` is that of this shell's
 // own numbers, it reads the state of the process there.
 const READ_STATE: &str =
-    "exec 2>/dev/null; p=; read -r p s </proc/self/stat; [ \"$p\" != $$ ] || { s=; ";
+    "exec 2>/dev/null; p=; [ ! /proc/self -ef /proc/$$ ] || { while read -r l p; do ";
 
-// The second field behind the name, which may hold anything, is the parent: it goes on only if that
-// is its own.
-const COMPARE_PARENT: &str = "while read -r l; do s=$s$l; done </proc/$1/stat; \
-    set -- \"$1\" ${s##*) }; [ \"$3\" = $PPID ] || ";
+// The line `PPid:` has the parent: it goes on only if that is its own.
+const COMPARE_PARENT: &str =
+    "case $l in PPid:) break ;; esac; done </proc/$1/status; [ \"$p\" = $PPID ] || ";
 
 // Where `/proc` hides processes, as that of number 1, it goes on also where it can't read the
 // state.
-const SEND_SIGNAL: &str = "{ [ -z \"$3\" ] && [ ! -r /proc/1/stat ]; }; } && kill -$0 $1";
+const SEND_SIGNAL: &str = "{ [ -z \"$p\" ] && [ ! -r /proc/1/status ]; }; } && kill -$0 $1";
 
 // The text of a service's name. A name is ASCII, so the dash is never returned.
 pub(crate) fn text_of(name: &Name) -> &str
